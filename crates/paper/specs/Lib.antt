@@ -1,0 +1,12 @@
+pub mod Lists
+pub mod Stream
+pub mod Tree
+pub mod Query
+pub mod Row
+pub mod Records
+pub mod Sound
+pub mod Building
+pub mod Questions
+pub mod Refusals
+pub mod Answers
+pub mod Cases
