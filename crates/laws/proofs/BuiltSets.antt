@@ -1,0 +1,207 @@
+-- Demand 2, and that a built set is sound: from the bytes handed to a build to the table that it leaves.
+-- First what the tests of a build give, then the set that it makes, then the questions on it.
+use mathlib.Core.Bool.{Bool, _&&_, cond, false, true}
+use mathlib.Core.List.{List, List·Memᴰ·tail, [], _++_, _∷_}
+use mathlib.Core.Logic.{_↔_}
+use mathlib.Core.Path.{_∙_, _≡_, ap, refl, subst, subst₂, sym}
+use Prim.Native.Nat.{_*_, _+_, _-_, _<_, _^_, _≤_, suc, ℕ}
+use native.Mathlib.Omega.{arith}
+use borrow.Author.Tests.{eq-eqb, le-leb, leb-true, lt-ltb}
+use lib.Dec.{eqb, leb, ltb}
+use lib.ListN.{getD, length}
+use lib.Pow.{pow-pos}
+use Rattle.paper.specs.Building.{allPlaces}
+use Rattle.paper.specs.Lists.{Once, _∈_}
+use Rattle.paper.specs.Questions.{countOf, hasPlace, isListed, marksOf, questionWork, rowNumbered, standsAt}
+use Rattle.paper.specs.Records.{listing}
+use Rattle.paper.specs.Refusals.{Reply, Test, answer, askTests, buildTests, entriesFit, headFrom, isOpen, madeFrom, member, memberTests, nodesIn, over, projectTests, queryIn, queryPart, rowTests, tableAfter, treeIn, treePart, workFor}
+use Rattle.paper.specs.Row.{Row}
+use Rattle.paper.specs.Sound.{sound}
+use Rattle.paper.specs.Stream.{StreamRecord, queryRecords, recordsOf, treeRecords}
+use Rattle.paper.specs.Tree.{size}
+use Rattle.laws.specs.Built.{BuiltSet, InAnswer, SaysTheAnswer, Stood}
+use Rattle.laws.specs.Fixings.{GoodSet}
+use Rattle.laws.specs.Numbered.{Numbered}
+use Rattle.laws.specs.Plain.{Head, Record}
+use Rattle.laws.specs.RowSets.{answerRows}
+use Rattle.laws.proofs.Answer.{answer-once, answer-right}
+use Rattle.laws.proofs.Bound.{records-bound}
+use Rattle.laws.proofs.GoodSets.{HeadOver, over-good, over-length, over-lists, used-over}
+use Rattle.laws.proofs.Listed.{all-places, in-listed, listed-in, map-upTo, row-stands, stands-row}
+use Rattle.laws.proofs.Lists.{both-true, here}
+use Rattle.laws.proofs.ReadQuery.{ReadQuery, query-read}
+use Rattle.laws.proofs.ReadTree.{tree-read}
+use Rattle.laws.proofs.Records.{records-once, records-right, records-sound}
+use Rattle.laws.proofs.Replies.{Passes, answered, answers, passes-append, passes-left, passes-right}
+use Rattle.laws.proofs.Runs.{size-numbered}
+use Rattle.laws.proofs.SoundTest.{is-sound}
+
+-- ---- the set that a build makes, where its tests pass
+module _ (input : List ℕ) (workLength tableLength : ℕ) (passes : Passes (buildTests input workLength tableLength)) where
+  abbrev treePartIn : List StreamRecord
+  treePartIn = treeRecords (recordsOf input)
+
+  abbrev queryPartIn : List StreamRecord
+  queryPartIn = queryRecords (recordsOf input)
+
+  abbrev lastTests : List Test
+  lastTests =
+      (5, leb (workFor input) workLength)
+      ∷ (6, leb (length (madeFrom input)) tableLength && leb (length (madeFrom input)) 60000)
+      ∷ []
+
+  abbrev arity : ℕ
+  arity = queryIn input .arity
+
+  tree-passes : Passes (treePart treePartIn)
+  tree-passes = passes-left (treePart treePartIn) (queryPart queryPartIn ++ lastTests) passes
+
+  later-passes : Passes (queryPart queryPartIn ++ lastTests)
+  later-passes = passes-right (treePart treePartIn) (queryPart queryPartIn ++ lastTests) passes
+
+  pub read-tree : Numbered 0 (treeIn input) (nodesIn input) × (1 ≤ nodesIn input) × (nodesIn input ≤ 4095)
+  read-tree = tree-read treePartIn tree-passes
+
+  pub read-query : ReadQuery (queryIn input)
+  read-query = query-read queryPartIn (passes-left (queryPart queryPartIn) lastTests later-passes)
+
+  room : (leb (length (madeFrom input)) tableLength ≡ true) × (leb (length (madeFrom input)) 60000 ≡ true)
+  room =
+      both-true (leb (length (madeFrom input)) tableLength) (leb (length (madeFrom input)) 60000)
+      (passes-right (queryPart queryPartIn) lastTests later-passes .1 .0)
+
+  pub built-head : (table : List Record) → HeadOver (headFrom input) (over (madeFrom input) table) (madeFrom input) (answerRows (queryIn input) (treeIn input))
+  built-head table =
+      let Q = queryIn input in
+      let t = treeIn input in
+      let det = read-query .deterministic in
+      let ok = read-query .in-range in
+      record {
+        uses = used-over (headFrom input) (madeFrom input) table refl;
+        number = refl;
+        there = over-length (madeFrom input) table;
+        few-used = leb-true (length (madeFrom input)) 60000 (room .1);
+        some-nodes = read-tree .1;
+        few-nodes = read-tree .2;
+        some-places = read-query .some-places;
+        few-places = read-query .few-places;
+        open-places = omega (arith, pow-pos arity);
+        sound = records-sound Q det ok t (nodesIn input) (read-tree .0) (read-tree .2);
+        once = records-once Q det ok t (nodesIn input) (read-tree .0) (read-tree .2);
+        stands = records-right Q det ok t (nodesIn input) (read-tree .0) (read-tree .2);
+      }
+
+-- ---- a built set
+module _ (input : List ℕ) (h : Head) (table : List Record) (B : BuiltSet input h table) where
+  told-apart : Passes (buildTests input (B .workLength) (length (B .lent))) × (_≡_ {A = Head × List Record} (headFrom input, madeFrom input) (h, B .records))
+  told-apart = answered (buildTests input (B .workLength) (length (B .lent))) (B .answered)
+
+  passes : Passes (buildTests input (B .workLength) (length (B .lent)))
+  passes = told-apart .0
+
+  -- the head and the table, from the bytes
+  pub built-is : (headFrom input ≡ h) × (over (madeFrom input) (B .lent) ≡ table)
+  built-is = (
+    ap (λ (z : Head × List Record). z .0) (told-apart .1),
+    ap (λ (z : Head × List Record). over (z .1) (B .lent)) (told-apart .1)
+        ∙ ap (λ (z : Reply (Head × List Record)). tableAfter z (B .lent)) (sym (B .answered)) ∙ sym (B .left),
+  )
+
+  built-over : HeadOver h table (madeFrom input) (answerRows (queryIn input) (treeIn input))
+  built-over =
+      subst₂ (λ (x : Head) (y : List Record). HeadOver x y (madeFrom input) (answerRows (queryIn input) (treeIn input))) (built-is .0) (built-is .1)
+      (built-head input (B .workLength) (length (B .lent)) passes (B .lent))
+
+  -- a built set is sound, with no record above the paper's limit, and no used record lists a row twice
+  pub built-good : GoodSet h table
+  built-good = over-good h table (madeFrom input) (answerRows (queryIn input) (treeIn input)) built-over
+
+  built-lists : listing h table ≡ answerRows (queryIn input) (treeIn input)
+  built-lists = over-lists h table (madeFrom input) (answerRows (queryIn input) (treeIn input)) built-over
+
+  tree : Numbered 0 (treeIn input) (nodesIn input) × (1 ≤ nodesIn input) × (nodesIn input ≤ 4095)
+  tree = read-tree input (B .workLength) (length (B .lent)) passes
+
+  query : ReadQuery (queryIn input)
+  query = read-query input (B .workLength) (length (B .lent)) passes
+
+  -- the records made are no more than the paper's bound
+  pub built-bound : h .used ≤ 4 * 3 ^ h .arity * length (queryIn input .rules) * h .nodes + (length (queryIn input .accepting) - 1)
+  built-bound =
+      subst (λ (x : Head). x .used ≤ 4 * 3 ^ x .arity * length (queryIn input .rules) * x .nodes + (length (queryIn input .accepting) - 1)) (built-is .0)
+      (records-bound (queryIn input) (query .in-range) (query .few-places) (treeIn input) (nodesIn input) (tree .0))
+
+  -- ---- the questions on it
+  rows-right : (row : Row) → (row ∈ listing h table) ↔ InAnswer input row
+  rows-right row =
+      subst (λ (rows : List Row). (row ∈ rows) ↔ InAnswer input row) (sym built-lists)
+      (answer-right (queryIn input) (treeIn input) (query .deterministic) (query .in-range) (nodesIn input) (tree .0) (tree .2) row)
+
+  rows-once : Once (listing h table)
+  rows-once =
+      subst Once (sym built-lists)
+      (answer-once (queryIn input) (treeIn input) (query .deterministic) (query .in-range) (nodesIn input) (tree .0) (tree .2))
+
+  -- the tests that every question makes first
+  asks : (workLength : ℕ) → questionWork h ≤ workLength → Passes (askTests h table workLength)
+  asks workLength work = (le-leb (questionWork h) workLength work, (is-sound h table (built-good .sound), tt))
+
+  asks-then : (workLength : ℕ) (more : List Test) → questionWork h ≤ workLength → Passes more → Passes (askTests h table workLength ++ more)
+  asks-then workLength more work p = passes-append (askTests h table workLength) more (asks workLength work) p
+
+  all-open : h .places ≡ allPlaces (h .arity)
+  all-open = subst (λ (x : Head). x .places ≡ allPlaces (x .arity)) (built-is .0) refl
+
+  -- an accepted row has a node at every place
+  entries-fit : (i : ℕ) (row : Row) → i + length row ≤ h .arity → ((x : ℕ) → x ∈ row → x < h .nodes) → entriesFit h i row ≡ true
+  entries-fit i [] few nodes = refl
+  entries-fit i (x ∷ xs) few nodes =
+      rw (ap (λ (b : ℕ). hasPlace b i) all-open ∙ all-places (h .arity) i (omega arith), lt-ltb x (h .nodes) (nodes x here))
+      (entries-fit (suc i) xs (omega arith) (λ y m. nodes y (List·Memᴰ·tail m)))
+
+  fits-row : (workLength : ℕ) (row : Row) → questionWork h ≤ workLength → InAnswer input row → Passes (memberTests h table workLength row)
+  fits-row workLength row work a =
+      let arity : length row ≡ h .arity = a .places ∙ ap (λ (x : Head). x .arity) (built-is .0) in
+      let nodes : size (treeIn input) ≡ h .nodes = omega (arith, size-numbered (tree .0), ap (λ (x : Head). x .nodes) (built-is .0)) in
+      asks-then workLength ((13, eqb (length row) (h .arity)) ∷ (8, entriesFit h 0 row) ∷ []) work
+      (eq-eqb (length row) (h .arity) arity, (entries-fit 0 row (omega arith) (λ x m. omega (arith, a .nodes x m)), tt))
+
+  member-right : (workLength : ℕ) → questionWork h ≤ workLength → (row : Row) → (member h table workLength row ≡ answer true) ↔ InAnswer input row
+  member-right workLength work row = (
+    λ e. rows-right row .0 (listed-in (listing h table) row (answered (memberTests h table workLength row) e .1)),
+    λ a. answers (memberTests h table workLength row) (isListed (listing h table) row) (fits-row workLength row work a)
+        ∙ ap answer (in-listed (listing h table) row (rows-right row .1 a)),
+  )
+
+  marks-right : (place n : ℕ) → n < h .nodes → (getD (marksOf h table place) n 0 ≡ 1) ↔ Stood input place n
+  marks-right place n below = (
+    λ e. let s = stands-row (listing h table) (place - 1) n (mark-true _ (sym (mark-at place n below) ∙ e)) in
+        record { row = s .0; accepted = rows-right (s .0) .0 (s .1); there = s .2 },
+    λ s. mark-at place n below
+        ∙ ap (λ (c : Bool). cond c 1 0) (row-stands (listing h table) (place - 1) n (s .row) (rows-right (s .row) .1 (s .accepted)) (s .there)),
+  )
+    where
+      mark-at : (place n : ℕ) → n < h .nodes → getD (marksOf h table place) n 0 ≡ cond (standsAt (place - 1) n (listing h table)) 1 0
+      mark-at place n below = map-upTo (λ m. cond (standsAt (place - 1) m (listing h table)) 1 0) (h .nodes) n below
+
+      mark-true : (c : Bool) → _≡_ {A = ℕ} (cond c 1 0) 1 → c ≡ true
+      mark-true true e = refl
+      mark-true false e = absurd (omega (arith, e))
+
+  -- exactly the accepted rows are listed, each once, and count, row by number, member and project say so
+  pub built-right : SaysTheAnswer input h table
+  built-right = record {
+    lists = rows-right;
+    once = rows-once;
+    records-once = built-good .once;
+    counts = λ w work. answers (askTests h table w) (countOf h table) (asks w work);
+    numbers = λ w k out work below fits.
+        answers (rowTests h table w k out) (rowNumbered h table k)
+        (asks-then w ((9, ltb k (countOf h table)) ∷ (10, leb (h .arity) out) ∷ []) work
+        (lt-ltb k (countOf h table) below, (le-leb (h .arity) out fits, tt)));
+    members = member-right;
+    projects = λ w place out work is-open fits.
+        answers (projectTests h table w place out) (marksOf h table place)
+        (asks-then w ((7, isOpen h place) ∷ (10, leb (h .nodes) out) ∷ []) work (is-open, (le-leb (h .nodes) out fits, tt)));
+    marks = marks-right;
+  }

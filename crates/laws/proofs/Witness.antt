@@ -1,0 +1,87 @@
+-- The theorems speak of something: B followed by Q is built, and by the theorem, not by a run, the row (0, 3) is in its answer;
+-- and demand 3 applies to the fixings of P7.
+use mathlib.Core.Bool.{Bool, _&&_, true}
+use mathlib.Core.List.{List, List·Memᴰ·cases-cons, List·Memᴰ·not-nil, [], _++_, _∷_}
+use mathlib.Core.Logic.{⊎-elim}
+use mathlib.Core.Path.{_≡_, ap, refl, subst, sym}
+use Prim.Native.Nat.{_<_, ℕ}
+use native.Mathlib.Omega.{arith}
+use lib.ListN.{replicate}
+use Rattle.paper.specs.Lists.{_∈_}
+use Rattle.paper.specs.Records.{blankEntry}
+use Rattle.paper.specs.Refusals.{Reply, Test, answer, build, buildTests, headFrom, isOpen, madeFrom, over, tableAfter}
+use Rattle.laws.specs.Built.{BuiltSet, InAnswer}
+use Rattle.laws.specs.Fixings.{Allowed, FixedAll, Fixing, Lent}
+use Rattle.paper.specs.Cases.{queryQ, treeB}
+use Rattle.laws.specs.Plain.{Head, Record}
+use Rattle.laws.proofs.BuiltSets.{built-right}
+use Rattle.laws.proofs.FixingsRight.{built-fixings}
+use Rattle.laws.proofs.Lists.{both-true, here, only}
+use Rattle.laws.proofs.Replies.{Passes, answers}
+use Rattle.laws.proofs.TestedRows.{different}
+
+-- B followed by Q, and a lent table with three entries more than are needed
+abbrev input : List ℕ
+input = treeB ++ queryQ
+
+abbrev lent : List Record
+lent = replicate 16 blankEntry
+
+-- tests that hold by computing
+allHold : List Test → Bool
+allHold [] = true
+allHold (t ∷ ts) = t .1 && allHold ts
+
+all-hold : (ts : List Test) → allHold ts ≡ true → Passes ts
+unfolding allHold
+all-hold [] e = tt
+all-hold (t ∷ ts) e = let h = both-true (t .1) (allHold ts) e in (h .0, all-hold ts (h .1))
+
+passes : Passes (buildTests input 48 16)
+unfolding allHold
+passes = all-hold (buildTests input 48 16) refl
+
+given : build input 48 16 ≡ answer (headFrom input, madeFrom input)
+given = answers (buildTests input 48 16) (headFrom input, madeFrom input) passes
+
+pub built-B : BuiltSet input (headFrom input) (over (madeFrom input) lent)
+built-B = record {
+  workLength = 48;
+  lent = lent;
+  records = madeFrom input;
+  answered = given;
+  left = ap (λ (r : Reply (Head × List Record)). tableAfter r lent) (sym given);
+}
+
+-- the first row of P2
+pub accepted-first : InAnswer input (0 ∷ 3 ∷ [])
+accepted-first = built-right input (headFrom input) (over (madeFrom input) lent) built-B .lists (0 ∷ 3 ∷ []) .0 here
+
+-- ---- P7
+abbrev first : Fixing
+first = record { place = 1; node = 0 }
+
+abbrev second : Fixing
+second = record { place = 2; node = 3 }
+
+-- with work of 13 and into a table of 13 entries
+abbrev calls : Fixing → Lent
+calls f = record { fixing = f; work = 13; target = replicate 13 blankEntry }
+
+two-allowed : (f g : Fixing) → (g .place ≡ f .place → ⊥) → isOpen (headFrom input) (f .place) ≡ true → isOpen (headFrom input) (g .place) ≡ true
+    → f .node < 5 → g .node < 5 → Allowed (headFrom input) (f ∷ g ∷ [])
+two-allowed f g apart open-f open-g node-f node-g = record {
+  different = (λ m. apart (sym (only m)), (λ m. List·Memᴰ·not-nil m, tt));
+  all-open = λ x m. of-two (λ z. isOpen (headFrom input) (z .place) ≡ true) open-f open-g x m;
+  all-nodes = λ x m. of-two (λ z. z .node < 5) node-f node-g x m;
+}
+  where
+    of-two : (P : Fixing → Type 0) → P f → P g → (x : Fixing) → x ∈ f ∷ g ∷ [] → P x
+    of-two P pf pg x m =
+        ⊎-elim (λ e. subst P (sym e) pf) (λ n. subst P (sym (only n)) pg) (List·Memᴰ·cases-cons m)
+
+pub fixed-B : FixedAll (calls first ∷ calls second ∷ []) (headFrom input) (over (madeFrom input) lent)
+fixed-B =
+    built-fixings input (headFrom input) (over (madeFrom input) lent) built-B (calls first ∷ calls second ∷ [])
+    (two-allowed first second (λ e. let z : _≡_ {A = ℕ} 2 1 = e in omega arith) refl refl (omega arith) (omega arith))
+    (omega arith, omega arith, (omega arith, omega arith, tt))
