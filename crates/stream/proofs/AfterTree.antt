@@ -1,0 +1,119 @@
+-- For callers: the query's records stand at the tree's end, so what is read there is the query of the input.
+-- And what a query that is read tells: where the records behind its head stand, that they are whole, and that they make its rules.
+use mathlib.Core.Bool.{Bool, cond, false, false≢true, true}
+use mathlib.Core.List.{List, List·Memᴰ·tail, [], _∷_}
+use mathlib.Core.Logic.{⊎-elim}
+use mathlib.Core.Path.{_∙_, _≡_, ap, refl, subst, sym}
+use Prim.Native.Nat.{_*_, _+_, _<_, _≤_, suc, zero, ℕ}
+use native.Mathlib.Omega.{arith}
+use borrow.Author.Tests.{eqb-true, ltb-false, ltb-true}
+use lib.Dec.{ltb}
+use lib.ListN.{drop, getD, length, length-drop}
+use lib.Seq.{drop-drop}
+use Rattle.paper.specs.Lists.{_∈_}
+use Rattle.paper.specs.Query.{acceptingOf, queryOf, rulesOf}
+use Rattle.paper.specs.Refusals.{answer, atEach, nodesIn, queryEndTests, queryIn, queryPart, queryTests, unless}
+use Rattle.paper.specs.Stream.{StreamRecord, bodyLength, isTreeKind, queryRecords, recordsOf, treeRecords, whole}
+use Rattle.laws.proofs.Lists.{which}
+use Rattle.laws.proofs.Replies.{Passes, answered, passes-left}
+use Rattle.laws.proofs.StreamPlaces.{firstRecord, records-cons, tree-kind}
+use Rattle.stream.specs.Positions.{after, recordAt}
+use Rattle.stream.specs.Reading.{QueryFacts, queryFacts, queryReply}
+use Rattle.stream.specs.Steps.{queryWith}
+use Rattle.stream.proofs.EachRecord.{each-passed}
+use Rattle.stream.proofs.Positions.{records-here, records-none}
+
+-- the records are the query's from two bytes behind each of the tree's on
+BehindTree : List ℕ → List StreamRecord → Type 0
+BehindTree bytes records = queryRecords records ≡ recordsOf (drop (2 * length (treeRecords records)) bytes)
+
+-- one more record in front, whether it is the tree's or not
+behind-first : (k : ℕ) (more : List ℕ) → BehindTree (drop (bodyLength k) more) (recordsOf (drop (bodyLength k) more))
+    → BehindTree (k ∷ more) (firstRecord k more ∷ recordsOf (drop (bodyLength k) more))
+unfolding BehindTree
+behind-first k more ih = go (isTreeKind k) refl
+  where
+    rest : List StreamRecord
+    rest = recordsOf (drop (bodyLength k) more)
+
+    nodes : ℕ
+    nodes = length (treeRecords rest)
+
+    go : (c : Bool) → isTreeKind k ≡ c → cond c (queryRecords rest) (firstRecord k more ∷ rest)
+        ≡ recordsOf (drop (2 * length (cond c (firstRecord k more ∷ treeRecords rest) [])) (k ∷ more))
+    go true e = ih ∙ ap recordsOf (drop-drop (2 * nodes) (bodyLength k) more ∙ ap (λ n. drop n (k ∷ more)) two)
+      where
+        two : suc (bodyLength k + 2 * nodes) ≡ 2 * suc nodes
+        two = let one : bodyLength k ≡ 1 = ⊎-elim (λ z. rw z refl) (λ z. rw z refl) (tree-kind k e) in omega arith
+    go false e = sym (records-cons k more)
+
+behind-tree : (n : ℕ) (bytes : List ℕ) → length bytes ≤ n → BehindTree bytes (recordsOf bytes)
+unfolding BehindTree
+behind-tree zero [] h = refl
+behind-tree zero (k ∷ more) h = absurd (omega arith)
+behind-tree (suc n) [] h = refl
+behind-tree (suc n) (k ∷ more) h =
+    subst (BehindTree (k ∷ more)) (sym (records-cons k more))
+    (behind-first k more (behind-tree n (drop (bodyLength k) more) (omega (arith, length-drop (bodyLength k) more))))
+
+-- the query's records are those from the tree's end on, whether the tree is refused or not
+pub query-after-tree : (input : List ℕ) → queryRecords (recordsOf input) ≡ recordsOf (drop (2 * nodesIn input) input)
+unfolding BehindTree
+query-after-tree input = behind-tree (length input) input (omega arith)
+
+-- what is read at the tree's end: the tests of the input's query, and its numbers
+pub facts-after-tree : (input : List ℕ)
+    → queryFacts input (2 * nodesIn input) ≡ record { arity = queryIn input .arity; states = queryIn input .states; rules = 2 * nodesIn input + 3 }
+facts-after-tree input = λ i. record {
+  arity = ap (λ records. queryOf records .arity) (sym (query-after-tree input)) i;
+  states = ap (λ records. queryOf records .states) (sym (query-after-tree input)) i;
+  rules = 2 * nodesIn input + 3;
+}
+
+pub reply-after-tree : (input : List ℕ)
+    → queryReply input (2 * nodesIn input) ≡ unless (queryPart (queryRecords (recordsOf input))) (queryFacts input (2 * nodesIn input))
+reply-after-tree input = ap (λ records. unless (queryPart records) (queryFacts input (2 * nodesIn input))) (sym (query-after-tree input))
+
+-- ---- a query that is read
+tells-whole : (before : List StreamRecord) (r : StreamRecord) → Passes (queryTests before r) → whole r ≡ true
+tells-whole [] r p = p .1 .0
+tells-whole (x ∷ xs) r p = p .1 .0
+
+module _ (input : List ℕ) (at : ℕ) (f : QueryFacts) (e : answer f ≡ queryReply input at) where
+  read : Passes (queryPart (recordsOf (drop at input))) × (queryFacts input at ≡ f)
+  read = answered (queryPart (recordsOf (drop at input))) (sym e)
+
+  inside : at < length input
+  inside = ⊎-elim (ltb-true at (length input)) none (which (ltb at (length input)))
+    where
+      none : ltb at (length input) ≡ false → at < length input
+      none h =
+          let left : recordsOf (drop at input) ≡ [] = records-none input at (ltb-false at (length input) h) in
+          absurd (false≢true (subst (λ records. Passes (queryPart records)) left (read .0) .0))
+
+  tests : Passes (atEach queryTests [] (recordAt input at ∷ recordsOf (drop (after input at) input)))
+  tests =
+      subst (λ records. Passes (atEach queryTests [] records)) (records-here input at inside)
+      (passes-left (atEach queryTests [] (recordsOf (drop at input))) (queryEndTests (recordsOf (drop at input))) (read .0))
+
+  behind : after input at ≡ f .rules
+  behind = omega (arith, ap bodyLength (eqb-true (getD input at 0) 16 (tests .0)), ap (λ (g : QueryFacts). g .rules) (read .1))
+
+  -- the head, then the records behind it
+  pub records-read : recordsOf (drop at input) ≡ recordAt input at ∷ recordsOf (drop (f .rules) input)
+  records-read = records-here input at inside ∙ ap {B = List StreamRecord} (λ n. recordAt input at ∷ recordsOf (drop n input)) behind
+
+  -- these are whole
+  pub whole-read : (r : StreamRecord) → r ∈ recordsOf (drop (f .rules) input) → whole r ≡ true
+  whole-read r m =
+      each-passed queryTests (λ x. whole x ≡ true) tells-whole [] _ tests r
+      (List·Memᴰ·tail (subst (λ n. r ∈ recordsOf (drop n input)) (sym behind) m))
+
+  -- and make the query
+  pub query-read : queryOf (recordsOf (drop at input)) ≡ queryWith f (recordsOf (drop (f .rules) input))
+  query-read = ap queryOf records-read ∙ λ i. record {
+    arity = (ap (λ records. queryOf records .arity) (sym records-read) ∙ ap (λ (g : QueryFacts). g .arity) (read .1)) i;
+    states = (ap (λ records. queryOf records .states) (sym records-read) ∙ ap (λ (g : QueryFacts). g .states) (read .1)) i;
+    rules = rulesOf (recordsOf (drop (f .rules) input));
+    accepting = acceptingOf (recordsOf (drop (f .rules) input));
+  }

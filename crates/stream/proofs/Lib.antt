@@ -1,0 +1,15 @@
+pub mod Table
+pub mod Lengths
+pub mod Positions
+pub mod EachRecord
+pub mod TreeSteps
+pub mod TreeReading
+pub mod Said
+pub mod Rules
+pub mod InRange
+pub mod QuerySteps
+pub mod QueryHead
+pub mod QueryReading
+pub mod AfterTree
+pub mod RulesFound
+pub mod OneAnswer

@@ -1,0 +1,174 @@
+-- The query, record by record. First what the loop over the records behind the head keeps up, and what it answers where one is refused
+-- and where the input ends; then the head, and the two together.
+use mathlib.Core.Bool.{cond, false, true}
+use mathlib.Core.List.{List, [], _++_, _∷_, append-assoc, append-nil}
+use mathlib.Core.Logic.{⊎-elim}
+use mathlib.Core.Path.{_∙_, _≡_, ap, ap₂, refl, subst, sym}
+use Prim.Native.Nat.{_+_, _<_, _≤_, ℕ}
+use native.Mathlib.Omega.{arith}
+use borrow.Author.Tests.{eqb-true, leb-true, ltb-false, ltb-true}
+use lib.Dec.{leb, ltb}
+use lib.ListN.{drop, getD, length, take}
+use lib.Seq.{slice-empty}
+use Rattle.paper.specs.Query.{acceptingOf, queryOf, rulesOf}
+use Rattle.paper.specs.Refusals.{Test, answer, atEach, headTests, laterTests, queryEndTests, queryPart, queryTests, refused, unless}
+use Rattle.paper.specs.Stream.{StreamRecord, bodyLength, number, recordsOf}
+use Rattle.laws.proofs.Lists.{both-true, which}
+use Rattle.laws.proofs.Replies.{Passes, answered, answers, unless-append}
+use Rattle.stream.specs.Positions.{WholeBetween, after, recordAt, recordsBetween}
+use Rattle.stream.specs.Reading.{QueryFacts, queryFacts, queryReply}
+use Rattle.stream.specs.Steps.{AtLaterRecord, QueryState, headReply, laterReply, queryStep, queryUpTo, queryWith}
+use Rattle.stream.proofs.EachRecord.{first-refused, passes-more, refused-append}
+use Rattle.stream.proofs.Positions.{between-more, records-between, records-here, records-none, whole-inside, whole-more, whole-none}
+
+-- the tests of one record behind the head
+abbrev testsBehind : QueryFacts → List StreamRecord → StreamRecord → List Test
+testsBehind f before r = laterTests (queryWith f before) r
+
+-- ---- what holds after each record behind the head: they are whole records whose tests passed, and make the state
+pub record QuerySoFar (input : List ℕ) (f : QueryFacts) (s : QueryState) : Type 0 where
+  pub before : WholeBetween input (f .rules) (s .at)
+  pub passed : Passes (atEach (testsBehind f) [] (recordsBetween input (f .rules) (s .at)))
+  pub state : s ≡ queryUpTo input f (s .at)
+
+-- right behind the head there is none
+pub query-starts : (input : List ℕ) (f : QueryFacts) → f .rules ≤ length input → QuerySoFar input f (record { at = f .rules; rules = 0 })
+query-starts input f h = record {
+  before = whole-none input (f .rules) h;
+  passed = subst (λ bytes. Passes (atEach (testsBehind f) [] (recordsOf bytes))) (sym none) tt;
+  state = λ i. record { at = f .rules; rules = ap (λ bytes. length (rulesOf (recordsOf bytes))) (sym none) i };
+}
+  where
+    none : drop (f .rules) (take (f .rules) input) ≡ []
+    none = slice-empty (f .rules) input
+
+module _ (input : List ℕ) (f : QueryFacts) (s : QueryState) (k : QuerySoFar input f s) where
+  abbrev before : List StreamRecord
+  before = recordsBetween input (f .rules) (s .at)
+
+  all-records : recordsOf (drop (f .rules) input) ≡ before ++ recordsOf (drop (s .at) input)
+  all-records = records-between input (f .rules) (s .at) (k .before)
+
+  module _ (here : s .at < length input) where
+    pub at-record : f .arity ≤ 4 → AtLaterRecord input f s
+    at-record places = record { places = places; before = k .before; state = k .state; here = here }
+
+    -- one more record that passes
+    pub query-goes-on : (next : QueryState) → answer next ≡ queryStep input f (s .at) → QuerySoFar input f next × (s .at < next .at)
+    query-goes-on next e =
+        let a = answered (testsBehind f before (recordAt input (s .at))) (sym e) in
+        subst (λ t. QuerySoFar input f t × (s .at < t .at)) (a .1) (so-far (a .0), omega arith)
+      where
+        so-far : Passes (testsBehind f before (recordAt input (s .at))) → QuerySoFar input f (queryUpTo input f (after input (s .at)))
+        so-far p = record {
+          before = whole-more input (f .rules) (s .at) (k .before) fits;
+          passed =
+              rw (between-more input (f .rules) (s .at) (k .before) fits) (passes-more (testsBehind f) before (recordAt input (s .at)) (k .passed) p);
+          state = refl;
+        }
+          where
+            fits : after input (s .at) ≤ length input
+            fits = whole-inside input (s .at) here (p .1 .0)
+
+    -- a record that is refused
+    pub query-refused : (n : ℕ) → refused n ≡ queryStep input f (s .at) → refused n ≡ laterReply input f
+    query-refused n e =
+        sym (first-refused (testsBehind f) before (k .passed) [] f (queryUpTo input f (after input (s .at))) (recordAt input (s .at)) rest (sym e))
+        ∙ ap (λ ts. unless ts f) (append-nil (atEach (testsBehind f) [] (before ++ (recordAt input (s .at) ∷ rest))))
+        ∙ ap (λ records. unless (atEach (testsBehind f) [] records) f) (sym (all-records ∙ ap (λ z. before ++ z) (records-here input (s .at) here)))
+      where
+        rest : List StreamRecord
+        rest = recordsOf (drop (after input (s .at)) input)
+
+  -- the end of the input
+  pub query-ends : length input ≤ s .at → answer f ≡ laterReply input f
+  query-ends h =
+      sym (answers (atEach (testsBehind f) [] before) f (k .passed))
+      ∙ ap (λ records. unless (atEach (testsBehind f) [] records) f)
+      (sym (all-records ∙ ap (λ z. before ++ z) (records-none input (s .at) h) ∙ append-nil before))
+
+-- ---- the head
+-- the end of the query asks for a head, which is there
+end-holds : {A : Type 0} (ts : List Test) (n : ℕ) (a : A) → unless (ts ++ ((n, true) ∷ [])) a ≡ unless ts a
+end-holds [] n a = refl
+end-holds (t ∷ ts) n a = ap (λ z. cond (t .1) z (refused (t .0))) (end-holds ts n a)
+
+-- behind a head with this arity and these states the tests are those behind it
+tests-behind : (f : QueryFacts) (head : StreamRecord) → number head 0 ≡ f .arity → number head 1 ≡ f .states
+    → (before records : List StreamRecord) → atEach queryTests (head ∷ before) records ≡ atEach (testsBehind f) before records
+tests-behind f head a b before [] = refl
+tests-behind f head a b before (r ∷ rs) =
+    ap₂ {C = List Test} (λ x y. x ++ y) (ap (λ Q. laterTests Q r) query) (tests-behind f head a b (before ++ (r ∷ [])) rs)
+  where
+    query : queryOf (head ∷ before) ≡ queryWith f before
+    query = λ i. record { arity = a i; states = b i; rules = rulesOf before; accepting = acceptingOf before }
+
+module _ (input : List ℕ) (at : ℕ) where
+  abbrev head : StreamRecord
+  head = recordAt input at
+
+  abbrev rest : List StreamRecord
+  rest = recordsOf (drop (after input at) input)
+
+  abbrev facts : QueryFacts
+  facts = queryFacts input at
+
+  with-head : at < length input → queryReply input at ≡ unless (queryPart (head ∷ rest)) facts
+  with-head h = ap (λ records. unless (queryPart records) facts) (records-here input at h)
+
+  -- no head, or one at fault
+  pub head-refused : (n : ℕ) → refused n ≡ headReply input at → refused n ≡ queryReply input at
+  head-refused n e = ⊎-elim stands none (which (ltb at (length input)))
+    where
+      stands : ltb at (length input) ≡ true → refused n ≡ queryReply input at
+      stands h =
+          sym (with-head (ltb-true at (length input) h)
+          ∙ refused-append (atEach queryTests [] (head ∷ rest)) (queryEndTests (head ∷ rest)) facts facts
+          (refused-append (headTests head) (atEach queryTests (head ∷ []) rest) facts facts (sym (rw h at e))))
+
+      none : ltb at (length input) ≡ false → refused n ≡ queryReply input at
+      none h = rw h at e ∙ ap (λ records. unless (queryPart records) facts) (sym (records-none input at (ltb-false at (length input) h)))
+
+  -- a head that passes
+  module _ (p : Passes ((3, ltb at (length input)) ∷ headTests head)) where
+    inside : at < length input
+    inside = ltb-true at (length input) (p .0)
+
+    two-numbers : bodyLength (getD input at 0) ≡ 2
+    two-numbers = ap bodyLength (eqb-true (getD input at 0) 16 (p .1 .0))
+
+    arity : number head 0 ≡ facts .arity
+    arity = ap (λ records. queryOf records .arity) (sym (records-here input at inside))
+
+    states : number head 1 ≡ facts .states
+    states = ap (λ records. queryOf records .states) (sym (records-here input at inside))
+
+    few-places : facts .arity ≤ 4
+    few-places = omega (arith, arity, leb-true (number head 0) 4 (both-true (leb 1 (number head 0)) (leb (number head 0) 4) (p .1 .1 .1 .0) .1))
+
+    rules-inside : facts .rules ≤ length input
+    rules-inside = omega (arith, two-numbers, whole-inside input at inside (p .1 .1 .0))
+
+    passed : queryReply input at ≡ laterReply input facts
+    passed =
+        with-head inside
+        ∙ ap (λ ts. unless ts facts) (append-assoc (headTests head) (atEach queryTests (head ∷ []) rest) (queryEndTests (head ∷ rest)))
+        ∙ unless-append (headTests head) (atEach queryTests (head ∷ []) rest ++ queryEndTests (head ∷ rest)) facts (p .1)
+        ∙ end-holds (atEach queryTests (head ∷ []) rest) 3 facts
+        ∙ ap (λ ts. unless ts facts) (tests-behind facts head arity states [] rest)
+        ∙ ap (λ n. unless (atEach (testsBehind facts) [] (recordsOf (drop n input))) facts) three
+      where
+        three : after input at ≡ at + 3
+        three = omega (arith, two-numbers)
+
+  -- the records behind it decide
+  module _ (f : QueryFacts) (e : answer f ≡ headReply input at) where
+    read-head : Passes ((3, ltb at (length input)) ∷ headTests head) × (facts ≡ f)
+    read-head = answered ((3, ltb at (length input)) ∷ headTests head) (sym e)
+
+    pub behind-head : (f .arity ≤ 4) × (f .rules ≤ length input)
+    behind-head =
+        subst (λ g. (g .arity ≤ 4) × (g .rules ≤ length input)) (read-head .1) (few-places (read-head .0), rules-inside (read-head .0))
+
+    pub head-passed : laterReply input f ≡ queryReply input at
+    head-passed = subst (λ g. laterReply input g ≡ queryReply input at) (read-head .1) (sym (passed (read-head .0)))
