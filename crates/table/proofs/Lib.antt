@@ -1,0 +1,14 @@
+pub mod Prelude
+pub mod Steps
+pub mod Locals
+pub mod Loops
+pub mod Parameters
+pub mod Calls
+pub mod Lending
+pub mod Arrays
+pub mod Entries
+pub mod Copies
+pub mod Batches
+pub mod States
+pub mod Building
+pub mod Asking

@@ -1,0 +1,72 @@
+// The lent table of records: the few functions that write it. They are proved by hand, so all that can be done on plain numbers is done
+// by functions that the borrow checker covers. proofs/ has the laws that the drivers of `build` and `ask` are instances of.
+ghost use mathlib.Core.Path.{_≡_};
+ghost use Prim.Native.Nat.{_+_, _*_, _<_};
+ghost use lib.ListN.{length, replicate};
+ghost use Rattle.paper.specs.Records.{blankEntry};
+ghost use Rattle.table.specs.Batch.{recordAt, fitted, stored};
+use paper::Record;
+
+// Every entry all zeros.
+pub fn blank(table: &mut [Record])
+    ensures { λ _. ⌜ now (table .exit) ≡ replicate (length (now (table .entry))) blankEntry ⌝ }
+{
+    let n = table.len();
+    let r = Record {
+        kind: 0,
+        node: 0,
+        left: 0,
+        right: 0,
+        flag: 0,
+    };
+    let mut i: usize = 0;
+    while i < n {
+        table[i] = r;
+        i += 1;
+    }
+}
+
+// The first `count` records of a batch, five numbers each, to the entries from `from` on; nothing where they do not fit.
+pub fn store(table: &mut [Record], from: usize, batch: &[u16], count: usize)
+    ensures { λ _. ⌜ now (table .exit) ≡ stored (now (table .entry)) from (now (batch .entry)) count ⌝ }
+{
+    let entries = table.len();
+    let numbers = batch.len();
+    let n = fitting(entries, from, numbers, count);
+    let mut i: usize = 0;
+    while i < n {
+        let r = record_at(batch, i);
+        let j = from + i;
+        table[j] = r;
+        i += 1;
+    }
+}
+
+// How many records of a batch are stored: all of them, or none.
+fn fitting(entries: usize, from: usize, numbers: usize, count: usize) -> usize
+    ensures { λ n. ⌜ n ≡ fitted entries from numbers count ⌝ }
+{
+    if count <= entries {
+        if from <= entries - count {
+            if count <= numbers / 5 {
+                return count;
+            }
+        }
+    }
+    0
+}
+
+// Record i of a batch.
+fn record_at(batch: &[u16], i: usize) -> Record
+    requires { ⌜ 5 * i + 4 < length (now batch) ⌝ }
+    ensures { λ r. ⌜ r ≡ recordAt (now (batch .entry)) i ⌝ }
+{
+    let at = 5 * i;
+    Record {
+        kind: batch[at],
+        node: batch[at + 1],
+        left: batch[at + 2],
+        right: batch[at + 3],
+        flag: batch[at + 4],
+    }
+}
