@@ -1,0 +1,134 @@
+-- The last turn: the root's slots are united, and the building stops with the set that the paper's building makes, or past the limit.
+use mathlib.Core.Bool.{Bool, cond, false, false≢true, true, true≢false}
+use mathlib.Core.List.{List, [], _++_, _∷_, append-nil, tail-eq-of-cons-eq}
+use mathlib.Core.Path.{_∙_, _≡_, ap, refl, subst, sym}
+use Prim.Native.Nat.{_*_, _+_, _-_, _<_, _≤_, ℕ}
+use native.Mathlib.Omega.{arith}
+use borrow.Author.Tests.{ltb-false, ltb-true}
+use lib.Dec.{ltb}
+use lib.ListN.{length}
+use Rattle.paper.specs.Building.{Slots, acceptStep, made, recordSets}
+use Rattle.paper.specs.Lists.{through, upTo}
+use Rattle.paper.specs.Refusals.{treePart, madeFrom, queryIn, treeIn}
+use Rattle.paper.specs.Stream.{StreamRecord, recordsOf, treeRecords}
+use Rattle.paper.specs.Tree.{root}
+use Rattle.laws.proofs.Replies.{Passes}
+use Rattle.build.specs.Batch.{Made, Makes, Record, Set, empty, recordsIn, setIn}
+use Rattle.build.specs.Frames.{FrameIs, width}
+use Rattle.build.specs.NodeOrder.{Stack, fromNode}
+use Rattle.build.specs.Roots.{UnitedTo, unitedTo}
+use Rattle.build.specs.Standing.{Standing, State, Stepped, stackLeft}
+use Rattle.build.specs.States.{counted, ended, more, stopped}
+use Rattle.build.proofs.Accepting.{made-end, root-last}
+use Rattle.build.proofs.Limits.{constants-stay, more-records, some-left}
+use Rattle.build.proofs.NodeEnd.{node-passed}
+use Rattle.build.proofs.NodeOrder.{node-order}
+use Rattle.build.proofs.Present.{few-states-here, node-of}
+use Rattle.build.proofs.ReadInput.{tree-passes}
+
+module _ (input : List ℕ) (t : State) (work : List ℕ) (before : List Record) (s : Standing input t work before) (done : length input ≤ t .rule)
+    (last : t .nodes ≤ t .node + 1) where
+  tree : Passes (treePart (treeRecords (recordsOf input)))
+  tree = tree-passes input (s .constants .tree)
+
+  -- no node is behind
+  none-behind : (behind : List StreamRecord) → s .node .behind ≡ behind → behind ≡ []
+  none-behind [] e = refl
+  none-behind (r ∷ rs) e =
+      absurd (omega (arith, node-of input t (s .constants) (s .node), ap length e, s .constants .nodes))
+
+  last-node : s .node .behind ≡ []
+  last-node = none-behind (s .node .behind) refl
+
+  all-records : treeRecords (recordsOf input) ≡ s .node .before ++ (s .node .here ∷ [])
+  all-records = s .node .records ∙ ap (λ rs. s .node .before ++ (s .node .here ∷ rs)) last-node
+
+  -- the stack has the root's slots alone
+  passed : fromNode (queryIn input) (treeRecords (recordsOf input)) 0 [] [] ≡ (before, s .slots ∷ stackLeft (s .node .here) (s .node .stack))
+  passed =
+      ap (λ rs. fromNode (queryIn input) rs 0 [] []) all-records
+      ∙ node-passed input t (s .constants) (s .node) (t .rule) (before, s .slots) (s .rule) done
+
+  alone : stackLeft (s .node .here) (s .node .stack) ≡ []
+  alone = tail-eq-of-cons-eq (ap (λ (z : Stack). z .1) (sym passed ∙ node-order (queryIn input) (treeRecords (recordsOf input)) tree))
+
+  root-number : root (treeIn input) ≡ t .node
+  root-number =
+      omega (
+        arith,
+        root-last (queryIn input) (treeRecords (recordsOf input)) tree,
+        node-of input t (s .constants) (s .node),
+        ap length last-node,
+      )
+
+  -- so this is what is made
+  made-of-roots : made (queryIn input) (treeIn input) ≡ unitedTo input t (s .slots) (queryIn input .states) before
+  made-of-roots =
+      made-end (queryIn input) (treeRecords (recordsOf input)) tree before (s .slots)
+      (passed ∙ ap (λ (stack : List (Slots Set)). (before, s .slots ∷ stack)) alone)
+      ∙ ap (λ n. through (acceptStep recordSets (queryIn input) n (s .slots)) (before, empty) (upTo (queryIn input .states))) root-number
+
+  module _ (m : Made) (batch batch′ : List ℕ) (u : UnitedTo input t work (t .states) batch m batch′) where
+    united : Makes (unitedTo input t (s .slots) (t .states)) (t .states) (t .used) 0 batch m batch′
+    united =
+        u (s .slots)
+        (subst (λ n. FrameIs (t .arity) (t .states) work (n * width (t .arity) (t .states)) (s .slots)) (sym (s .node .high)) (s .frames .frames .0))
+
+    result : made (queryIn input) (treeIn input) ≡ (before ++ recordsIn (m .count) batch′, setIn (m .set))
+    result =
+        made-of-roots
+        ∙ ap (λ n. unitedTo input t (s .slots) n before) (sym (s .constants .states))
+        ∙ ap (unitedTo input t (s .slots) (t .states)) (sym (append-nil before))
+        ∙ united .makes before (s .used)
+
+    made-many : length (madeFrom input) ≡ t .used + m .count
+    made-many = omega (arith, ap (λ z. length (z .0)) result, more-records before (m .count) batch′, s .used)
+
+    past-limit : t .limit - t .used < m .count → Stepped input t work before (ended (stopped t) (m .set)) work batch′
+    past-limit h = record {
+      limit = refl;
+      asked = refl;
+      rest = refl;
+      from = sym (s .used);
+      count = omega arith;
+      fits = omega (arith, s .few);
+      goes = λ e. absurd (false≢true e);
+      stops = λ e. record {
+        constants = constants-stay input t (ended (stopped t) (m .set)) refl refl refl refl refl refl (s .constants);
+        done = λ w. absurd (true≢false w);
+        past = λ w. (omega (arith, made-many, s .few), refl);
+      };
+      falls = some-left input t work before s;
+    }
+
+    within-limit : m .count ≤ t .limit - t .used → Stepped input t work before (ended (more t (m .count) (t .rule)) (m .set)) work batch′
+    within-limit h = record {
+      limit = refl;
+      asked = refl;
+      rest = refl;
+      from = sym (s .used);
+      count = omega (arith, united .few, few-states-here input t (s .constants) (s .node));
+      fits = omega (arith, s .few);
+      goes = λ e. absurd (false≢true e);
+      stops = λ e. record {
+        constants = constants-stay input t (ended (more t (m .count) (t .rule)) (m .set)) refl refl refl refl refl refl (s .constants);
+        done = λ w. record {
+          made = result;
+          used = omega (arith, more-records before (m .count) batch′, s .used);
+          few = omega (arith, s .few);
+          set = united .at-hand;
+        };
+        past = λ w. absurd (true≢false (sym w ∙ s .over));
+      };
+      falls = some-left input t work before s;
+    }
+
+    pub roots-stepped : {r r′ : State} → r ≡ counted t (m .count) (t .rule) → r′ ≡ ended r (m .set) → Stepped input t work before r′ work batch′
+    roots-stepped e e′ =
+        subst (λ x. Stepped input t work before x work batch′) (sym (e′ ∙ ap (λ x. ended x (m .set)) e))
+        (go (ltb (t .limit - t .used) (m .count)) refl)
+      where
+        go : (c : Bool) → ltb (t .limit - t .used) (m .count) ≡ c
+            → Stepped input t work before (ended (cond c (stopped t) (more t (m .count) (t .rule))) (m .set)) work batch′
+        go true w = past-limit (ltb-true (t .limit - t .used) (m .count) w)
+        go false w = within-limit (ltb-false (t .limit - t .used) (m .count) w)

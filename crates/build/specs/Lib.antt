@@ -1,0 +1,15 @@
+pub mod Batch
+pub mod Rules
+pub mod NodeOrder
+pub mod RuleOrder
+pub mod Accepting
+pub mod Growing
+pub mod Frames
+pub mod States
+pub mod Standing
+pub mod Coming
+pub mod Branches
+pub mod Roots
+pub mod Whole
+pub mod Driving
+pub mod Face

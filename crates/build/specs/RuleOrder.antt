@@ -1,0 +1,31 @@
+-- The rules of a query as its records stand in the stream, one after the other, and what a matching one does at a node.
+use mathlib.Core.Path.{_≡_}
+use mathlib.Core.List.{List, map}
+use Prim.Native.Nat.{ℕ}
+use Rattle.paper.specs.Stream.{StreamRecord, number}
+use Rattle.paper.specs.Building.{Sets, Slots, Split, flagsBeside, put}
+
+-- the record is a leaf rule, or a branch rule, for this label
+abbrev pub LeafRuleFor : ℕ → StreamRecord → Type 0
+LeafRuleFor label r = (r .kind ≡ 17) × (number r 0 ≡ label)
+
+abbrev pub BranchRuleFor : ℕ → StreamRecord → Type 0
+BranchRuleFor label r = (r .kind ≡ 18) × (number r 0 ≡ label)
+
+-- node n by a leaf rule: the single in the rule's slot
+abbrev pub leafBy : {S E : Type 0} → Sets S E → ℕ → StreamRecord → S × Slots E → S × Slots E
+leafBy A n r (s, slots) =
+    let (s₁, e) = A .single n (number r 1) s in
+    (s₁, put slots (number r 2) (number r 1) e)
+
+-- the splits of a branch rule
+abbrev pub splitsFor : ℕ → StreamRecord → List Split
+splitsFor arity r =
+    map (λ w. record {
+      state = number r 4;
+      own = number r 1;
+      left = number r 2;
+      leftFlag = w .0;
+      right = number r 3;
+      rightFlag = w .1;
+    }) (flagsBeside arity (number r 1))
