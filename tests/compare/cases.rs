@@ -1,0 +1,162 @@
+//! The cases: a stream with the buffers lent to its build. Case `number` of a seed is always the same.
+
+use crate::damage::{any_bytes, byte_changed, byte_dropped, byte_put_in, cut, record_moved};
+use crate::limits;
+use crate::random::Random;
+use crate::streams::{any_places_seen, any_valid, any_with_q, dense, grown, Stream};
+use records::set::{Record, MOST_RECORDS};
+
+pub struct Case {
+    pub kind: &'static str,
+    pub input: Vec<u8>,
+    pub work: Vec<u64>,
+    pub table: Vec<Record>,
+    /// What stands in the head before the call.
+    pub head: [u16; 6],
+}
+
+/// How much is lent, beside what the build asks for.
+#[derive(Clone, Copy)]
+pub enum Room {
+    /// As much as is asked for, or a little more.
+    Enough,
+    Exact,
+    /// Far more.
+    Long,
+    /// Work one short, the table exact or one short too.
+    WorkShort,
+    TableShort,
+    /// So many entries of work and of the table.
+    Of(usize, usize),
+}
+
+/// In random cases no longer table is lent; a build that makes more is refused 6.
+pub const LONGEST_TABLE: usize = 4_000;
+
+type Make = fn(&mut Random) -> Case;
+
+/// Each kind of random case, with how many there are.
+const RANDOM: &[(usize, Make)] = &[
+    (5_000, |r| enough("rules grown along rows", r, grown)),
+    (3_000, |r| enough("most left sides have a rule", r, dense)),
+    (400, |r| enough("states are the places seen", r, any_places_seen)),
+    (600, |r| enough("query Q", r, any_with_q)),
+    (2_000, |r| any_room("work and table exact", r, Room::Exact)),
+    (1_500, |r| any_room("work one short", r, Room::WorkShort)),
+    (1_500, |r| any_room("table one short", r, Room::TableShort)),
+    (500, |r| any_room("work and table long", r, Room::Long)),
+    (3_000, |r| damaged("a byte changed", r, byte_changed)),
+    (1_500, |r| damaged("cut", r, cut)),
+    (2_000, |r| damaged("a byte dropped", r, byte_dropped)),
+    (2_000, |r| damaged("a byte put in", r, byte_put_in)),
+    (1_500, |r| damaged("a record moved or said again", r, record_moved)),
+    (500, |r| any_stream("any bytes", r)),
+    (200, |r| limits::many_rules("limit: 1,024 rules and more, any", r)),
+];
+
+/// All cases of a seed: the random ones, then the limits.
+pub struct Cases {
+    seed: u64,
+    limits: Vec<limits::Limit>,
+}
+
+impl Cases {
+    pub fn of(seed: u64) -> Cases {
+        Cases { seed, limits: limits::all() }
+    }
+
+    fn random() -> usize {
+        RANDOM.iter().map(|(count, _)| count).sum()
+    }
+
+    pub fn len(&self) -> usize {
+        Cases::random() + self.limits.len()
+    }
+
+    pub fn case(&self, number: usize) -> Case {
+        let mut random = Random::of(self.seed, number as u64);
+        if number >= Cases::random() {
+            let limit = &self.limits[number - Cases::random()];
+            return lend(&mut random, limit.kind, limit.input.clone(), limit.room, MOST_RECORDS);
+        }
+        let mut before = 0;
+        for (count, make) in RANDOM {
+            if number < before + count {
+                return make(&mut random);
+            }
+            before += count;
+        }
+        unreachable!("every number below the random cases has a kind")
+    }
+}
+
+fn enough(kind: &'static str, random: &mut Random, make: fn(&mut Random) -> Stream) -> Case {
+    let input = make(random).bytes();
+    lend(random, kind, input, Room::Enough, LONGEST_TABLE)
+}
+
+fn any_room(kind: &'static str, random: &mut Random, room: Room) -> Case {
+    let input = any_valid(random).bytes();
+    lend(random, kind, input, room, LONGEST_TABLE)
+}
+
+fn damaged(kind: &'static str, random: &mut Random, damage: fn(&mut Random, &Stream) -> Vec<u8>) -> Case {
+    let stream = any_valid(random);
+    let input = damage(random, &stream);
+    lend(random, kind, input, Room::Enough, LONGEST_TABLE)
+}
+
+fn any_stream(kind: &'static str, random: &mut Random) -> Case {
+    let input = any_bytes(random);
+    lend(random, kind, input, Room::Enough, LONGEST_TABLE)
+}
+
+/// The case with its buffers, filled with garbage so that what stays unchanged shows.
+pub fn lend(random: &mut Random, kind: &'static str, input: Vec<u8>, room: Room, longest: usize) -> Case {
+    let (work, table) = match (room, records::needs(&input)) {
+        (Room::Of(work, table), _) => (work, table),
+        (_, Err(_)) => (random.below(40), random.below(20)),
+        (_, Ok(needs)) if needs.records.is_none_or(|made| made > longest) => {
+            (needs.work + random.below(9), random.between(1, longest))
+        }
+        (room, Ok(needs)) => lengths(random, room, needs.work, needs.records.unwrap_or(longest)),
+    };
+    let head = [0; 6].map(|_: u16| random.any() as u16);
+    Case { kind, input, work: garbage_numbers(random, work), table: garbage_records(random, table), head }
+}
+
+fn lengths(random: &mut Random, room: Room, work: usize, made: usize) -> (usize, usize) {
+    match room {
+        Room::Enough => (work + random.below(9), made + random.below(9)),
+        Room::Exact | Room::Of(..) => (work, made),
+        Room::Long => (work + random.between(100, 2_000), made + random.between(100, 2_000)),
+        Room::WorkShort => (work - 1, made.saturating_sub(random.below(2))),
+        Room::TableShort => (work, made.saturating_sub(1)),
+    }
+}
+
+/// Any numbers, small ones that could be sets, or all ones.
+fn garbage_numbers(random: &mut Random, length: usize) -> Vec<u64> {
+    let style = random.below(3);
+    let number = |_| match style {
+        0 => random.any(),
+        1 => random.below(20) as u64,
+        _ => u64::MAX,
+    };
+    (0..length).map(number).collect()
+}
+
+/// Any entries, entries that could be records, or all ones.
+fn garbage_records(random: &mut Random, length: usize) -> Vec<Record> {
+    let style = random.below(3);
+    let entry = |_| match style {
+        0 => any_entry(|| random.any() as u16),
+        1 => any_entry(|| random.below(4) as u16),
+        _ => any_entry(|| u16::MAX),
+    };
+    (0..length).map(entry).collect()
+}
+
+fn any_entry(mut number: impl FnMut() -> u16) -> Record {
+    Record { kind: number(), node: number(), left: number(), right: number(), flag: number() }
+}

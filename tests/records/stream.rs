@@ -1,0 +1,136 @@
+//! 'The input stream', read from its first byte to its last, and refusals 1 to 4.
+
+use crate::refuse_unless;
+
+/// A tree record, with its label. Leaf label 5 and branch label 5 are different symbols.
+#[derive(Clone, Copy, Debug, PartialEq)]
+pub enum Symbol {
+    Leaf(u8),
+    Branch(u8),
+}
+
+/// The kind and left side of a rule.
+#[derive(Clone, Copy, Debug, PartialEq)]
+pub enum Left {
+    Leaf { label: u8, flag: u8 },
+    Branch { label: u8, flag: u8, left: u8, right: u8 },
+}
+
+#[derive(Clone, Copy, Debug)]
+pub struct Rule {
+    pub side: Left,
+    pub state: u8,
+}
+
+/// The rules in file order; `accepting[q]` where state q is accepting.
+pub struct Query {
+    pub arity: usize,
+    pub states: usize,
+    pub rules: Vec<Rule>,
+    pub accepting: [bool; 16],
+}
+
+pub struct Stream {
+    pub tree: Vec<Symbol>,
+    pub most_unjoined: usize,
+    pub query: Query,
+}
+
+/// The bytes, and how many of them are read.
+struct Reader<'a> {
+    input: &'a [u8],
+    at: usize,
+}
+
+impl Reader<'_> {
+    /// The next record's kind, which is not stepped over.
+    fn kind(&self) -> Option<u8> {
+        self.input.get(self.at).copied()
+    }
+
+    /// Steps over the kind and a body of N bytes; refused with the number where the input is cut in it.
+    fn body<const N: usize>(&mut self, number: u8) -> Result<[u8; N], u8> {
+        let from = self.at + 1;
+        let body = self.input.get(from..from + N).ok_or(number)?;
+        self.at = from + N;
+        Ok(body.try_into().unwrap())
+    }
+}
+
+pub fn read(input: &[u8]) -> Result<Stream, u8> {
+    let mut reader = Reader { input, at: 0 };
+    let (tree, most_unjoined) = read_tree(&mut reader)?;
+    let mut query = read_head(&mut reader)?;
+    while let Some(kind) = reader.kind() {
+        query.read_record(kind, &mut reader)?;
+    }
+    Ok(Stream { tree, most_unjoined, query })
+}
+
+/// The tree, and the most subtrees ever unjoined.
+fn read_tree(reader: &mut Reader) -> Result<(Vec<Symbol>, usize), u8> {
+    let (mut tree, mut unjoined, mut most) = (Vec::new(), 0, 0);
+    while let Some(kind @ (1 | 2)) = reader.kind() {
+        refuse_unless(2, tree.len() < 4095)?;
+        let [label] = reader.body(1)?;
+        refuse_unless(1, label <= 63)?;
+        if kind == 2 {
+            refuse_unless(1, unjoined >= 2)?;
+            unjoined -= 2;
+        }
+        unjoined += 1;
+        most = most.max(unjoined);
+        tree.push(if kind == 1 { Symbol::Leaf(label) } else { Symbol::Branch(label) });
+    }
+    refuse_unless(1, unjoined == 1)?;
+    Ok((tree, most))
+}
+
+fn read_head(reader: &mut Reader) -> Result<Query, u8> {
+    refuse_unless(3, reader.kind() == Some(16))?;
+    let [arity, states] = reader.body(3)?;
+    refuse_unless(3, 1 <= arity && arity <= 4 && 1 <= states && states <= 16)?;
+    Ok(Query { arity: arity as usize, states: states as usize, rules: Vec::new(), accepting: [false; 16] })
+}
+
+impl Query {
+    fn read_record(&mut self, kind: u8, reader: &mut Reader) -> Result<(), u8> {
+        match kind {
+            17 => {
+                let [label, flag, state] = reader.body(3)?;
+                self.add_rule(Left::Leaf { label, flag }, label, flag, &[state])
+            }
+            18 => {
+                let [label, flag, left, right, state] = reader.body(3)?;
+                self.add_rule(Left::Branch { label, flag, left, right }, label, flag, &[left, right, state])
+            }
+            19 => {
+                let [state] = reader.body(3)?;
+                self.accept(state)
+            }
+            // a second head, or an unknown kind
+            _ => Err(3),
+        }
+    }
+
+    /// `states` are all states of the rule; the last is the one that it names.
+    fn add_rule(&mut self, side: Left, label: u8, flag: u8, states: &[u8]) -> Result<(), u8> {
+        refuse_unless(3, self.rules.len() < 1024)?;
+        refuse_unless(3, label <= 63 && (flag as usize) < 1 << self.arity)?;
+        refuse_unless(3, states.iter().all(|&state| self.has(state)))?;
+        refuse_unless(4, self.rules.iter().all(|earlier| earlier.side != side))?;
+        self.rules.push(Rule { side, state: states[states.len() - 1] });
+        Ok(())
+    }
+
+    fn accept(&mut self, state: u8) -> Result<(), u8> {
+        refuse_unless(3, self.has(state))?;
+        refuse_unless(4, !self.accepting[state as usize])?;
+        self.accepting[state as usize] = true;
+        Ok(())
+    }
+
+    fn has(&self, state: u8) -> bool {
+        (state as usize) < self.states
+    }
+}
