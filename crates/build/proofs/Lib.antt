@@ -28,3 +28,4 @@ pub mod Storing
 pub mod Facing
 pub mod StateShape
 pub mod BuildRight
+pub mod OneAnswer

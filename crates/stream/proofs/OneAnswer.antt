@@ -4,16 +4,14 @@ use mathlib.Core.Bool.{false, true, true≢false}
 use mathlib.Core.List.{List, List·Memᴰ·tail, [], _++_, _∷_, head-eq-of-cons-eq, nil≢cons, tail-eq-of-cons-eq}
 use mathlib.Core.Logic.{⊎-elim}
 use mathlib.Core.Path.{_∙_, _≡_, ap, refl, sym}
-use Prim.Native.Nat.{_-_, _<_, _≤_, suc, zero, ℕ}
+use Prim.Native.Nat.{_<_, _≤_, suc, zero, ℕ}
 use native.Mathlib.Omega.{arith}
-use lib.ListN.{drop, getD, length, length-drop, take, take-append-drop}
-use Rattle.paper.specs.declared.Refusal.{Refusal}
-use Rattle.paper.specs.declared.Refusal.the-variants.{LongInput, ManyNodes, Node, NotSound, Place, Query, RowLength, RowNumber, ShortOutput, ShortTable, ShortWork, Tree, Twice, UnitTwice}
-use Rattle.paper.specs.Answers.{numberOf}
+use lib.ListN.{drop, length, length-drop, take, take-append-drop}
 use Rattle.paper.specs.Lists.{_∈_}
 use Rattle.paper.specs.Refusals.{Reply, answer, refused}
 use Rattle.paper.specs.Stream.{StreamRecord, bodyLength, recordsOf, recordsWithin}
 use Rattle.laws.specs.StreamRows.{written}
+use Rattle.laws.proofs.Answers.{refusal-told, refusalOf, told-apart}
 use Rattle.laws.proofs.Lists.{here}
 use Rattle.stream.specs.Positions.{NextRule, isRuleFor, recordAt}
 use Rattle.stream.specs.Reading.{QueryFacts, QueryRead, TreeFacts, TreeRead, queryReply, saysQuery, saysTree, treeReply}
@@ -22,28 +20,6 @@ use Rattle.stream.specs.declared.TreeRead.the-variants as TreeReadIs
 use Rattle.stream.proofs.Positions.{records-here, records-none}
 
 -- ---- the readers
--- the refusal of a number
-abbrev refusalOf : ℕ → Refusal
-refusalOf n =
-    getD (Tree ∷ ManyNodes ∷ Query ∷ Twice ∷ ShortWork ∷ ShortTable ∷ Place ∷ Node ∷ RowNumber ∷ ShortOutput ∷ NotSound ∷ UnitTwice
-    ∷ RowLength ∷ LongInput ∷ []) (n - 1) Tree
-
-refusal-told : (r : Refusal) → refusalOf (numberOf r) ≡ r
-refusal-told Tree = refl
-refusal-told ManyNodes = refl
-refusal-told Query = refl
-refusal-told Twice = refl
-refusal-told ShortWork = refl
-refusal-told ShortTable = refl
-refusal-told Place = refl
-refusal-told Node = refl
-refusal-told RowNumber = refl
-refusal-told ShortOutput = refl
-refusal-told NotSound = refl
-refusal-told UnitTwice = refl
-refusal-told RowLength = refl
-refusal-told LongInput = refl
-
 abbrev treeReadOf : Reply TreeFacts → TreeRead
 treeReadOf (refused n) = TreeReadIs.Refused (refusalOf n)
 treeReadOf (answer f) = TreeReadIs.Tree f
@@ -62,11 +38,11 @@ query-told (QueryReadIs.Refused r) = ap QueryReadIs.Refused (refusal-told r)
 
 -- two results of `read_tree`
 pub one-tree : (input : List ℕ) (r s : TreeRead) → saysTree r ≡ treeReply input → saysTree s ≡ treeReply input → r ≡ s
-one-tree input r s a b = sym (tree-told r) ∙ ap treeReadOf (a ∙ sym b) ∙ tree-told s
+one-tree input r s a b = told-apart saysTree treeReadOf tree-told r s (a ∙ sym b)
 
 -- two results of `read_query`
 pub one-query : (input : List ℕ) (at : ℕ) (r s : QueryRead) → saysQuery r ≡ queryReply input at → saysQuery s ≡ queryReply input at → r ≡ s
-one-query input at r s a b = sym (query-told r) ∙ ap queryReadOf (a ∙ sym b) ∙ query-told s
+one-query input at r s a b = told-apart saysQuery queryReadOf query-told r s (a ∙ sym b)
 
 -- ---- the next rule
 -- the records of bytes, written out, are the bytes
