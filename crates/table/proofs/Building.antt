@@ -1,33 +1,33 @@
 -- The law of the building loop, for any state (`States.antt`) and any covered function `step`. First what the law is of (`Law`), then the two
 -- signatures, the loop's MIR and the contracts, and the walk: `building-meets`.
 -- Assumes `Given`.
-use Rattle.table.proofs.Prelude.{ℕ, _<_, _^_, Lft, GName, Share, ftrue, flft, Fml, SProp, ent, id⊢, Fun, fact, u16, u8, yes, Is, pointee}
-use Rattle.table.proofs.Prelude.{nothing-tells, RattleType, owns, RefT, now, sliceTy, sliceVal, ShrSlice, Room, slice-vals, shr-slice-tells}
-use Rattle.table.proofs.Prelude.{MutSlice, mut-slice-tells, nothing, owned, heard, Clauses, Ended, closing, onEntry, Meets, Contract, Triple}
-use Rattle.table.proofs.Prelude.{says, needs, Stays, walkOf, Walks, ends-at, walked, walk-meets, Atoms, fullShare, URA, Tr, length, List, []}
-use Rattle.table.proofs.Prelude.{_∷_, _≡_, refl, _∙_, named, w8, w16, w64, Ty, tyInt, Val, vint, vunit, Memory, Routine, Heap, WpFn, Tables}
-use Rattle.table.proofs.Prelude.{Wp, afterSeq, afterBlock, atReturn, afterTurn, WpFn-mono, fmOf, Given, ‵, _⊛_, ⋆, _$_, _∵_, !, qed, by, move}
-use Rattle.table.proofs.Prelude.{keep, split, join, rewrite, fsplit, fjoin, suffices, frame, done, drop, Item, raw, Sq, runs, anyQ, atRet}
-use Rattle.table.proofs.Prelude.{use1, split3, feqL, group, agg, init, forget, stop, from, of-opd, store, and-then, no-more, land, land-last}
-use Rattle.table.proofs.Prelude.{first, blocks, exec}
+use Rattle.table.proofs.Prelude.{ℕ, _<_, Lft, GName, Share, ftrue, flft, Fml, SProp, ent, id⊢, Fun, fact, u16, u8, yes, Is, pointee}
+use Rattle.table.proofs.Prelude.{RattleType, owns, RefT, now, sliceTy, sliceVal, ShrSlice, Room, slice-vals, shr-slice-tells, MutSlice}
+use Rattle.table.proofs.Prelude.{mut-slice-tells, nothing, owned, heard, Clauses, Ended, closing, onEntry, Meets, Contract, Triple, says}
+use Rattle.table.proofs.Prelude.{needs, Stays, walkOf, Walks, ends-at, walked, walk-meets, Atoms, fullShare, URA, Tr, length, List, [], _∷_}
+use Rattle.table.proofs.Prelude.{_≡_, refl, _∙_, named, w8, w16, w64, Ty, tyInt, Val, Memory, Routine, Heap, WpFn, Tables, Wp, afterSeq}
+use Rattle.table.proofs.Prelude.{afterBlock, atReturn, afterTurn, WpFn-mono, fmOf, Given, ‵, _⊛_, ⋆, _$_, _∵_, !, qed, by, move, keep, split}
+use Rattle.table.proofs.Prelude.{join, fsplit, fjoin, suffices, frame, done, drop, Item, raw, Sq, runs, anyQ, atRet, use1, split3, feqL}
+use Rattle.table.proofs.Prelude.{group, agg, init, forget, stop, from, of-opd, store, and-then, no-more, land, land-last, first, blocks}
+use Rattle.table.proofs.Prelude.{exec}
 use types.Kit as Kit
 use mathlib.Core.Bool.{true, false}
 use mir.Syntax.{Name, Fn, Body as Code, erased, imm, mut, tyBool, tyUnit, tyRef, deref, field, place, copy, skip as skipᴹ, seq}
 use mir.Syntax.{assign, block, loop, cond, exit, return, call, rvOpd, addrOf, aggregate}
 use denote.Slice.{shr-slice-copy}
 use Rattle.paper.specs.declared.Record.{Record}
-use Rattle.table.specs.Batch.{stored}
-use Rattle.table.proofs.Steps.{owns-number, slice-typed, value, part, elements, sets, rv-is}
+use Rattle.table.proofs.Steps.{slice-typed, value, part, elements, sets, rv-is}
 use Rattle.table.proofs.Parameters.{by-value, lent, shown, still, gone, goes-still, goes-gone, goes-shown}
 use Rattle.table.proofs.Locals.{var, full, bare, locals, Blocks, envOf, enters, leaves, span}
 use Rattle.table.proofs.Loops.{tests, Onward, whiles, again}
 use Rattle.table.proofs.States.{Shape, Field, State, Row, StateTy, machine, state-tells, state-makes, state-typed, field-fits, nil, silent}
 use Rattle.table.proofs.States.{holds, fails}
 use Rattle.table.proofs.Entries.{Entry, EntryTy}
-use Rattle.table.proofs.Batches.{length-stored}
-use Rattle.table.proofs.Calls.{contract, calls, calls-last}
-use Rattle.table.proofs.Lending.{at-list, Mine, Seen, lends, has-back, shows as shows-slice, shown-back}
-use Rattle.table.proofs.store as store′
+use Rattle.table.proofs.Calls.{contract, calls}
+use Rattle.table.proofs.Lending.{at-list, Mine, Seen, lends, has-back}
+pub use Rattle.table.proofs.Storing.{Hand, turned}
+use Rattle.table.proofs.Storing as storing
+use Rattle.table.proofs.Storing.{Alike, turned-alike, stores}
 
 -- ---- what the law is of
 --     fn drive(table: &mut [Record], input: &[u8], s: S, work: &mut [P], batch: &mut [u16]) -> S {
@@ -40,21 +40,9 @@ use Rattle.table.proofs.store as store′
 --         }
 --         t
 --     }
--- what the loop has in hand
-pub record Hand (P : RattleType) (X : Shape) : Type 0 where
-  pub table : List Record
-  pub state : State X
-  pub work : List (P .Denot)
-  pub batch : List ℕ
-
 module _ (P : RattleType) (X : Shape) (from-field count-field : Field X) where
-  -- the lent slices are as long as they were
-  abbrev pub Alike : Hand P X → Hand P X → Type 0
-  Alike x y = (length (y .table) ≡ length (x .table)) × ((length (y .work) ≡ length (x .work)) × (length (y .batch) ≡ length (x .batch)))
-
-  -- what a turn leaves, where `step` gives the state, the work and the batch
-  abbrev pub turned : List Record → State X → List (P .Denot) → List ℕ → Hand P X
-  turned t s w b = record { table = stored t (from-field .value s) b (count-field .value s); state = s; work = w; batch = b }
+  abbrev after : List Record → State X → List (P .Denot) → List ℕ → Hand P X
+  after = turned P X from-field count-field
 
   -- the clauses of the two contracts, and what is to be shown of them: facts on plain values
   pub record Law : Type 1 where
@@ -68,10 +56,10 @@ module _ (P : RattleType) (X : Shape) (from-field count-field : Field X) where
     pub Before : List ℕ → Hand P X → Hand P X → Type 0
     pub falls : List ℕ → Hand P X → ℕ
     pub starts : (i : List ℕ) (x : Hand P X) → Ready i x → Before i x x
-    pub asks : (i : List ℕ) (x₀ x : Hand P X) → Alike x₀ x → Before i x₀ x → X .going (x .state) ≡ true → Ask i (x .state) (x .work) (x .batch)
-    pub onward : (i : List ℕ) (x₀ x : Hand P X) (s : State X) (w : List (P .Denot)) (b : List ℕ) → Alike x₀ x → Alike x₀ (turned (x .table) s w b)
+    pub asks : (i : List ℕ) (x₀ x : Hand P X) → Alike P X x₀ x → Before i x₀ x → X .going (x .state) ≡ true → Ask i (x .state) (x .work) (x .batch)
+    pub onward : (i : List ℕ) (x₀ x : Hand P X) (s : State X) (w : List (P .Denot)) (b : List ℕ) → Alike P X x₀ x → Alike P X x₀ (after (x .table) s w b)
         → Before i x₀ x → X .going (x .state) ≡ true
-        → Tell i (x .state) (x .work) (x .batch) s w b → Before i x₀ (turned (x .table) s w b) × (falls i (turned (x .table) s w b) < falls i x)
+        → Tell i (x .state) (x .work) (x .batch) s w b → Before i x₀ (after (x .table) s w b) × (falls i (after (x .table) s w b) < falls i x)
     pub stops : (i : List ℕ) (x₀ x : Hand P X) → Before i x₀ x → X .going (x .state) ≡ false → Built i x₀ x
 
 -- ---- the two signatures
@@ -171,7 +159,7 @@ module _ (P : RattleType) (X : Shape) (from-field count-field : Field X) (L : La
     Step = contract 𝓤 H A (step-ended P X) step-clauses
 
     abbrev pub Store : Contract 𝓤
-    Store = contract 𝓤 H A store′.ended (store′.clauses 𝓤 H A mem run)
+    Store = storing.Store 𝓤 H A mem run
 
     module _ (W : Given 𝓤 H A) (κ κⁱ κʷ κᵇ : Lft) (q qⁱ qʷ qᵇ : Share) (b o : ℕ) (γ : GName) (bⁱ oⁱ : ℕ) (γⁱ : GName) (bʷ oʷ : ℕ) (γʷ : GName)
         (bᵇ oᵇ : ℕ) (γᵇ : GName) (input : List ℕ) (x₀ : Hand P X) where
@@ -212,7 +200,7 @@ module _ (P : RattleType) (X : Shape) (from-field count-field : Field X) (L : La
       abbrev Batch : List ℕ → Fml
       Batch l = Mine u16 bᵇ oᵇ κᵇ γᵇ (length (x₀ .batch)) l
 
-      exits : (x : Hand P X) → Is (Row X) (x .state) (machine X (x .state) ∷ []) → Alike P X from-field count-field x₀ x → L .Built input x₀ x
+      exits : (x : Hand P X) → Is (Row X) (x .state) (machine X (x .state) ∷ []) → Alike P X x₀ x → L .Built input x₀ x
           → ent 𝓤 (⋆ 𝓤 H A (‵ (Table (x .table)) ∷ ‵ (flft κ q) ∷ ‵ (Work (x .work)) ∷ ‵ (flft κʷ qʷ) ∷ ‵ (Batch (x .batch)) ∷ ‵ (flft κᵇ qᵇ)
           ∷ ‵ (flft κⁱ qⁱ) ∷ [])) (Post (machine X (x .state)))
       exits x good l e =
@@ -228,7 +216,7 @@ module _ (P : RattleType) (X : Shape) (from-field count-field : Field X) (L : La
           move ! (1 ∷ 0 ∷ []) $ fjoin ! $ frame ! $
           owned ! (Row X) (Is (Row X)) (state-makes X 𝓤 H A) (x .state) (machine X (x .state) ∷ []) good $ done !
 
-      -- ---- the two calls
+      -- ---- the call of `step`
       abbrev to-step : State X → List (P .Denot) → List ℕ → ℕ → GName → ℕ → GName → Step .Ghost
       to-step s w l ν δ ν′ δ′ = (
         (
@@ -253,33 +241,9 @@ module _ (P : RattleType) (X : Shape) (from-field count-field : Field X) (L : La
           nothing ! $ move ! (3 ∷ 0 ∷ []) $ fjoin ! $ move ! (2 ∷ 0 ∷ []) $ fjoin ! $ move ! (1 ∷ 0 ∷ []) $ fjoin ! $
           owned ! (Row X) (Is (Row X)) (state-makes X 𝓤 H A) s (machine X s ∷ []) good $ fjoin ! $ done !
 
-      abbrev to-store : List Record → ℕ → List ℕ → ℕ → ℕ → GName → ℕ → GName → Store .Ghost
-      to-store t at l count ν δ ν′ δ′ = (
-        (
-          (ν ∷ [], (ν′ ∷ [], tt)),
-          (fullShare, (fullShare, tt)),
-          tt,
-          (at-list Entry b o δ t, (at, (at-list u16 bᵇ oᵇ δ′ l, (count, tt)))),
-          (table-slice ∷ [], (vint w64 at ∷ [], (batch-slice ∷ [], (vint w64 count ∷ [], tt)))),
-        ),
-        tt,
-      )
-
-      goes-store : (t : List Record) (at : ℕ) (l : List ℕ) (count : ℕ) → at < 2 ^ 64 → count < 2 ^ 64 → (ν : ℕ) (δ : GName) (ν′ : ℕ) (δ′ : GName)
-          → ent 𝓤 (⋆ 𝓤 H A (‵ (flft (ν ∷ []) fullShare) ∷ ‵ (flft (ν′ ∷ []) fullShare) ∷ ‵ (Mine Entry b o (ν ∷ []) δ (length (x₀ .table)) t)
-          ∷ ‵ (Seen u16 bᵇ oᵇ (ν′ ∷ []) δ′ (length (x₀ .batch)) l) ∷ []))
-          (Store .pre (to-store t at l count ν δ ν′ δ′))
-      goes-store t at l count from-small count-small ν δ ν′ δ′ =
-          qed W (‵ (flft (ν ∷ []) fullShare) ∷ ‵ (flft (ν′ ∷ []) fullShare) ∷ ‵ (Mine Entry b o (ν ∷ []) δ (length (x₀ .table)) t)
-          ∷ ‵ (Seen u16 bᵇ oᵇ (ν′ ∷ []) δ′ (length (x₀ .batch)) l) ∷ []) ∵
-          nothing ! $ move ! (2 ∷ 0 ∷ []) $ join ! $ move ! (1 ∷ 0 ∷ []) $ join ! $
-          nothing ! $ owns-number ! count count-small $ fjoin ! $ move ! (3 ∷ 0 ∷ []) $ fjoin ! $
-          owns-number ! at from-small $ fjoin ! $ move ! (2 ∷ 0 ∷ []) $ fjoin ! $
-          nothing ! $ move ! (2 ∷ 1 ∷ 0 ∷ []) $ join ! $ join ! $ done !
-
       -- ---- the loop
       abbrev Good : Hand P X → Type 0
-      Good x = Is (Row X) (x .state) (machine X (x .state) ∷ []) × (Alike P X from-field count-field x₀ x × L .Before input x₀ x)
+      Good x = Is (Row X) (x .state) (machine X (x .state) ∷ []) × (Alike P X x₀ x × L .Before input x₀ x)
 
       module _ (π : Ty) (k k′ : Name) (𝓣 : Tables 𝓤 H) (known : Triple 𝓤 (𝓣 .C k) Step) (known′ : Triple 𝓤 (𝓣 .C k′) Store)
           (table-room : Room Entry (length (x₀ .table))) (input-room : Room u8 (length input))
@@ -350,29 +314,19 @@ module _ (P : RattleType) (X : Shape) (from-field count-field : Field X) (L : La
               sets ! 42 refl (elements ! 18 refl refl refl refl) (tt, tt) $
               sets ! 44 refl (agg ! (and-then ! (value ! 42 refl) (and-then ! (part ! 18 refl refl refl) (no-more !))))
               (slice-typed (batch-room .0)) $
-              lends ! tt Entry b o (x .table) (length (x₀ .table)) (long .0) (λ α ε.
-              move ! (6 ∷ 7 ∷ []) $ shows-slice ! tt u16 bᵇ oᵇ (us .1 .1 .1 .0) (length (x₀ .batch)) (batch-long ∙ long .1 .1) (λ α′ ε′.
-              move ! (4 ∷ 0 ∷ 5 ∷ 1 ∷ []) $ group ! 4 $
-              use1 W (raw (Store .pre (to-store (x .table) (from-field .value s) (us .1 .1 .1 .0) (count-field .value s) α ε α′ ε′)))
-              (goes-store (x .table) (from-field .value s) (us .1 .1 .1 .0) (count-field .value s) (field-fits X W s good from-field .fits)
-              (field-fits X W s good count-field .fits) α ε α′ ε′) $
-              calls-last ! (fmOf 𝓤 H (W .laws) 𝓣) store′.ended (store′.clauses 𝓤 H A mem run) known′
-              (to-store (x .table) (from-field .value s) (us .1 .1 .1 .0) (count-field .value s) α ε α′ ε′) (λ _. vunit) nothing-tells
-              (and-then ! (value ! 41 refl) (and-then ! (value ! 23 refl) (and-then ! (value ! 45 refl) (and-then ! (value ! 25 refl) (no-more !)))))
-              (λ n ts good′. heard ! (ts .0 ≡ turned P X from-field count-field (x .table) s (us .1 .1 .0) (us .1 .1 .1 .0) .table) (λ e′.
-              use1 W (‵ (flft (α ∷ []) fullShare) ⊛ ‵ (flft (α′ ∷ []) fullShare) ⊛ ‵ ftrue) (id⊢ 𝓤 _) $ split3 ! $
-              move ! (3 ∷ []) $ fsplit ! $ fsplit ! $ move ! (1 ∷ []) $ feqL ! (λ table-long.
-              move ! (2 ∷ 0 ∷ 7 ∷ 8 ∷ []) $
-              has-back ! tt Entry b o (x .table) (ts .0) (length (x₀ .table)) table-room (long .0) (table-long ∙ long .0) $
-              move ! (3 ∷ 5 ∷ 6 ∷ []) $ shown-back ! tt u16 bᵇ oᵇ (us .1 .1 .1 .0) (length (x₀ .batch)) batch-room (batch-long ∙ long .1 .1) $
-              keep ! (2 ∷ 3 ∷ 6 ∷ 7 ∷ 0 ∷ 1 ∷ 8 ∷ 9 ∷ span 10 38) $
+              move ! (0 ∷ 1 ∷ 4 ∷ 5 ∷ []) $
+              stores W mem run b o bᵇ oᵇ (length (x₀ .table)) (length (x₀ .batch)) (x .table) (from-field .value s) (us .1 .1 .1 .0)
+              (count-field .value s) (fmOf 𝓤 H (W .laws) 𝓣) known′ table-room batch-room (long .0) (batch-long ∙ long .1 .1)
+              (field-fits X W s good from-field .fits) (field-fits X W s good count-field .fits)
+              (λ _ _ _ _ _.
+              and-then ! (value ! 41 refl) (and-then ! (value ! 23 refl) (and-then ! (value ! 45 refl) (and-then ! (value ! 25 refl) (no-more !))))) $
+              move ! (0 ∷ 1 ∷ 4 ∷ 5 ∷ []) $
               land-last ! (from ! (stop !)) (init ! 36 refl (tt, tt)) $
               forget ! 22 refl $ forget ! 24 refl $ forget ! 26 refl $ forget ! 28 refl $ forget ! 30 refl $ forget ! 32 refl $ forget ! 34 refl $
               forget ! 36 refl $ forget ! 38 refl $ forget ! 40 refl $ forget ! 42 refl $ forget ! 44 refl $
-              rewrite ! 0 (λ (l : List Record). ‵ (Table l)) e′ refl $
               again ! Good (L .falls input) Context x (after s (us .1 .1 .0) (us .1 .1 .1 .0))
               (good, on h s (us .1 .1 .0) (us .1 .1 .1 .0) work-long batch-long e .0)
-              (on h s (us .1 .1 .0) (us .1 .1 .1 .0) work-long batch-long e .1)))))))))))))
+              (on h s (us .1 .1 .0) (us .1 .1 .1 .0) work-long batch-long e .1))))))))
               (λ h.
               -- the loop is left, and the rest of the body runs
               exec ! (𝓣 .C) (𝓣 .Λ) env (end-code P π X from-field count-field k k′) (atRet env Post) $
@@ -381,7 +335,7 @@ module _ (P : RattleType) (X : Shape) (from-field count-field : Field X) (L : La
               leaves ! (machine X (x .state)) (full _ ∷ full _ ∷ full _ ∷ full _ ∷ full _ ∷ full _ ∷ bare ∷ bare ∷ full _ ∷ []) $
               keep ! (0 ∷ 1 ∷ 2 ∷ 3 ∷ 4 ∷ 5 ∷ 7 ∷ []) $ by ! (exits x (ok .0) long (L .stops input x₀ x (ok .1 .1) (fails (X .going (x .state)) h))))
             where
-              long : Alike P X from-field count-field x₀ x
+              long : Alike P X x₀ x
               long = ok .1 .0
 
               asks : Tr (X .going (x .state)) → L .Ask input (x .state) (x .work) (x .batch)
@@ -390,19 +344,14 @@ module _ (P : RattleType) (X : Shape) (from-field count-field : Field X) (L : La
               after : State X → List (P .Denot) → List ℕ → Hand P X
               after s w l = turned P X from-field count-field (x .table) s w l
 
-              alike : (s : State X) (w : List (P .Denot)) (l : List ℕ) → length w ≡ length (x .work) → length l ≡ length (x .batch)
-                  → Alike P X from-field count-field x₀ (after s w l)
-              alike s w l work-long batch-long =
-                  (length-stored (x .table) (from-field .value s) l (count-field .value s) ∙ long .0, (work-long ∙ long .1 .0, batch-long ∙ long .1 .1))
-
               on : Tr (X .going (x .state)) → (s : State X) (w : List (P .Denot)) (l : List ℕ) → length w ≡ length (x .work)
                   → length l ≡ length (x .batch)
                   → L .Tell input (x .state) (x .work) (x .batch) s w l
-                  → (Alike P X from-field count-field x₀ (after s w l) × L .Before input x₀ (after s w l)) × (L .falls input (after s w l) < L .falls input x)
+                  → (Alike P X x₀ (after s w l) × L .Before input x₀ (after s w l)) × (L .falls input (after s w l) < L .falls input x)
               on h s w l work-long batch-long e = ((same, next .0), next .1)
                 where
-                  same : Alike P X from-field count-field x₀ (after s w l)
-                  same = alike s w l work-long batch-long
+                  same : Alike P X x₀ (after s w l)
+                  same = turned-alike P X from-field count-field x₀ x s w l long work-long batch-long
 
                   next : L .Before input x₀ (after s w l) × (L .falls input (after s w l) < L .falls input x)
                   next = L .onward input x₀ x s w l long same (ok .1 .1) (holds (X .going (x .state)) h) e

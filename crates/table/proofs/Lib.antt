@@ -10,5 +10,9 @@ pub mod Entries
 pub mod Copies
 pub mod Batches
 pub mod States
+pub mod Storing
 pub mod Building
 pub mod Asking
+pub mod Copying
+pub mod Values
+pub mod Outputs

@@ -1,5 +1,5 @@
 -- The state that a loop over the table holds by value: any struct of plain data that has a field `going: bool`. First the struct (`Shape`) and a
--- field of it that is a usize (`Field`), then what the laws of `Building.antt` and `Asking.antt` use of them.
+-- field of it that is a usize (`Field`), then what the laws of the loops use of them.
 -- Assumes nothing, but for `Given` in `state-typed` and `field-fits`.
 use mathlib.Core.Path.{_≡_, refl, sym, subst}
 use Prim.Native.Nat.{ℕ, zero}

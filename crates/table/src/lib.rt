@@ -1,5 +1,5 @@
 // The lent table of records: the few functions that write it. They are proved by hand, so all that can be done on plain numbers is done
-// by functions that the borrow checker covers. proofs/ has the laws that the drivers of `build` and `ask` are instances of.
+// by functions that the borrow checker covers. proofs/ has the laws that the loops over a table are instances of: Building, Asking and Copying.
 ghost use mathlib.Core.Path.{_≡_};
 ghost use Prim.Native.Nat.{_+_, _*_, _<_};
 ghost use lib.ListN.{length, replicate};

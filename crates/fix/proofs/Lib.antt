@@ -1,0 +1,10 @@
+pub mod Flags
+pub mod Making
+pub mod Turning
+pub mod Beginning
+pub mod Finishing
+pub mod ImageSteps
+pub mod OneRecord
+pub mod Behind
+pub mod Facing
+pub mod StateShape

@@ -1,0 +1,25 @@
+-- `whole::set_of` is the set that a number is.
+use mathlib.Core.Path.{sym}
+use native.Mathlib.Omega.{arith}
+use Rattle.fix.proofs.Making.{record-number}
+use borrow.Author.Needs.{needs}
+use Rattle.fix.proofs.whole.set_of.Statement.{statement}
+use Rattle.fix.proofs.whole.set_of.Tie as tie
+
+returns : tie.Need-returns
+returns c = search needs
+
+returns-2 : tie.Need-returns-2
+returns-2 c = search needs
+
+sub-t3 : tie.Need-sub-t3
+sub-t3 c = search needs
+
+cast-t4 : tie.Need-cast-t4
+cast-t4 c = search needs
+
+returns-3 : tie.Need-returns-3
+returns-3 c = sym (record-number (c .before .before .args .number) (omega (arith, c .before .if1 .left, c .if2 .left)))
+
+pub set-of-spec : {M : Type 1} → statement M
+set-of-spec = tie.close (tie.spec returns returns-2 sub-t3 cast-t4 returns-3)

@@ -1,0 +1,65 @@
+-- A fix from beginning to end: what `begin` and `finish` answer, and what is left in the work.
+use mathlib.Core.Bool.{false, cond}
+use mathlib.Core.List.{List}
+use mathlib.Core.Path.{_≡_}
+use Prim.Native.Nat.{ℕ, _-_, _≤_, _<_}
+use lib.Dec.{leb, ltb}
+use lib.ListN.{length, getD, replicate}
+use Rattle.paper.specs.declared.Fixed.{Fixed}
+use Rattle.paper.specs.declared.Fixed.the-variants as FixedIs
+use Rattle.paper.specs.declared.Head.{Head}
+use Rattle.paper.specs.declared.Refusal.the-variants.{Place, Node, ShortTable}
+use Rattle.paper.specs.Questions.{without}
+use Rattle.paper.specs.Refusals.{isOpen, over}
+use Rattle.sound.specs.declared.Weighed.{Weighed}
+use Rattle.sound.specs.declared.Weighed.the-variants as WeighedIs
+use Rattle.fix.specs.Sets.{setAfter}
+use Rattle.fix.specs.States.{State, started, refusedBy}
+
+-- a sound set has at most four places
+abbrev pub MayBegin : Weighed → Head → Type 0
+MayBegin WeighedIs.Sound h = h .arity ≤ 4
+MayBegin (WeighedIs.Refused why) h = Unit {0}
+
+-- refused by `weigh`, or with 7, 8 or 6, or before the first record
+abbrev pub begun : Weighed → Head → ℕ → ℕ → ℕ → State
+begun WeighedIs.Sound h place node entries =
+    cond (isOpen h place)
+    (cond (ltb node (h .nodes))
+    (cond (leb (h .used) entries) (started (h .used) place node) (refusedBy (h .used) ShortTable))
+    (refusedBy (h .used) Node))
+    (refusedBy (h .used) Place)
+begun (WeighedIs.Refused why) h place node entries = refusedBy 0 why
+
+-- ---- the end
+-- the work has a set for each of the records
+pub record SetsIn (work : List ℕ) (used : ℕ) : Type 0 where
+  pub room : used ≤ length work
+  pub sets : (i : ℕ) → i < used → getD work i 0 ≤ 60001
+
+-- of an answer: the numbers of the head fit, and so do those of the sets
+pub record Fitted (t : State) (work : List ℕ) : Type 0 where
+  pub place : (1 ≤ t .place) × (t .place ≤ 4)
+  pub made : t .made ≤ 60000
+  pub sets : SetsIn work (t .used)
+
+pub record MayFinish (t : State) (work : List ℕ) : Type 0 where
+  pub room : t .used ≤ length work
+  pub fitted : t .refused ≡ false → Fitted t work
+
+-- the new head
+abbrev pub headAfter : State → Head → List ℕ → Head
+headAfter t h work = record {
+  nodes = h .nodes;
+  arity = h .arity;
+  places = without (h .places) (t .place - 1);
+  used = t .made;
+  set = setAfter work (t .used) (h .set);
+}
+
+abbrev pub answerAfter : State → Head → List ℕ → Fixed
+answerAfter t h work = cond (t .refused) (FixedIs.Refused (t .refusal)) (FixedIs.Set (headAfter t h work))
+
+pub record Finishes (t : State) (h : Head) (work : List ℕ) (r : Fixed) (work′ : List ℕ) : Type 0 where
+  pub answer : r ≡ answerAfter t h work
+  pub cleared : work′ ≡ over (replicate (t .used) 0) work

@@ -1,0 +1,135 @@
+// What becomes of one record where a place is fixed at a node: the paper's image. A set is a number here: 0 is empty, 1 is unit, i + 2 is
+// record i of the new table, which has `made` records so far, at most 60,000: so the number of a record fits its field.
+ghost use mathlib.Core.Path.{_≡_};
+ghost use Prim.Native.Nat.{_+_, _-_, _≤_};
+ghost use Rattle.paper.specs.Building.{singleRecord, productRecord, unionRecord};
+ghost use Rattle.fix.specs.Sets.{setIn, standing, newest, imageWith, Makes};
+use crate::flag::has_place;
+use crate::flag::without_place;
+use paper::Flag;
+use paper::Record;
+
+// The set that a record becomes, and the record that is new if one is: `count` is 0 or 1.
+pub(crate) struct Image {
+    pub(crate) set: u64,
+    pub(crate) count: usize,
+    pub(crate) new: Record,
+}
+
+// A set that is there already.
+fn no_record(set: u64) -> Image
+    ensures { λ r. ⌜ r ≡ standing set ⌝ }
+{
+    Image {
+        set: set,
+        count: 0,
+        new: Record {
+            kind: 0,
+            node: 0,
+            left: 0,
+            right: 0,
+            flag: 0,
+        },
+    }
+}
+
+// The record `new` as one more, and its set.
+fn one_record(new: Record, made: usize) -> Image
+    requires { ⌜ made ≤ 60000 ⌝ }
+    ensures { λ r. ⌜ r ≡ newest new made ⌝ }
+{
+    Image {
+        set: made as u64 + 2,
+        count: 1,
+        new: new,
+    }
+}
+
+// The node at each place of the flag; unit if it has none.
+fn single(node: u16, flag: u16, made: usize) -> Image
+    requires { ⌜ made ≤ 60000 ⌝ }
+    ensures { λ r. ⌜ Makes (singleRecord node flag) made r ⌝ }
+{
+    if flag == Flag::NONE {
+        return no_record(1);
+    }
+    let new = Record {
+        kind: 1,
+        node: node,
+        left: 0,
+        right: 0,
+        flag: flag,
+    };
+    one_record(new, made)
+}
+
+// The rows of the left set and then those of the right: with empty the other set. Unit meets only empty; else it is the left set.
+fn union(node: u16, flag: u16, left: u64, right: u64, made: usize) -> Image
+    requires { ⌜ made ≤ 60000 ⌝ }
+    requires { ⌜ (left ≤ made + 1) × (right ≤ made + 1) ⌝ }
+    ensures { λ r. ⌜ Makes (unionRecord node flag (setIn left) (setIn right)) made r ⌝ }
+{
+    if left == 0 {
+        return no_record(right);
+    }
+    if left == 1 || right < 2 {
+        return no_record(left);
+    }
+    let new = Record {
+        kind: 2,
+        node: node,
+        left: (left - 2) as u16,
+        right: (right - 2) as u16,
+        flag: flag,
+    };
+    one_record(new, made)
+}
+
+// Each row of the left set with each of the right: with unit the other factor, with empty empty.
+fn product(node: u16, flag: u16, left: u64, right: u64, made: usize) -> Image
+    requires { ⌜ made ≤ 60000 ⌝ }
+    requires { ⌜ (left ≤ made + 1) × (right ≤ made + 1) ⌝ }
+    ensures { λ r. ⌜ Makes (productRecord node flag (setIn left) (setIn right)) made r ⌝ }
+{
+    if left == 0 || right == 1 {
+        return no_record(left);
+    }
+    if left == 1 || right == 0 {
+        return no_record(right);
+    }
+    let new = Record {
+        kind: 3,
+        node: node,
+        left: (left - 2) as u16,
+        right: (right - 2) as u16,
+        flag: flag,
+    };
+    one_record(new, made)
+}
+
+// The image of a record whose operands have become the sets `left` and `right`.
+pub(crate) fn image_of(
+    r: Record,
+    place: u16,
+    node: u16,
+    left: u64,
+    right: u64,
+    made: usize,
+) -> Image
+    requires { ⌜ (1 ≤ place) × (place ≤ 4) ⌝ }
+    requires { ⌜ made ≤ 60000 ⌝ }
+    requires { ⌜ (left ≤ made + 1) × (right ≤ made + 1) ⌝ }
+    ensures { λ x. ⌜ Makes (imageWith (place - 1) node r (setIn left) (setIn right)) made x ⌝ }
+{
+    let flag = without_place(r.flag, place);
+    if r.kind == 1 {
+        if has_place(r.flag, place) && r.node != node {
+            return no_record(0);
+        }
+        return single(r.node, flag, made);
+    }
+    if r.kind == 2 {
+        return union(r.node, flag, left, right, made);
+    }
+    product(r.node, flag, left, right, made)
+}

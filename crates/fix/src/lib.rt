@@ -1,0 +1,76 @@
+// Fixing a place at a node: a new set in a second table.
+ghost use Rattle.fix.specs.Face.{Fixes};
+ghost use Rattle.fix.specs.Passes.{MayImage, ImagesDone, MayRecord, RecordsDone};
+use crate::state::State;
+use crate::turn::image_turn;
+use crate::turn::record_turn;
+use crate::whole::again;
+use crate::whole::begin;
+use crate::whole::finish;
+use paper::Fixed;
+use paper::Head;
+use paper::Record;
+
+mod flag;
+mod image;
+mod state;
+mod turn;
+mod whole;
+
+// The set with the place fixed at the node, in the target. The first pass finds the refusal 12 before the second writes anything.
+pub fn fix(
+    head: Head,
+    source: &[Record],
+    work: &mut [u64],
+    place: u16,
+    node: u16,
+    target: &mut [Record],
+) -> Fixed
+    ensures { λ r. ⌜ Fixes head (now (source .entry)) (now (work .entry)) place node (now (target .entry)) r (now (work .exit)) (now (target .exit)) ⌝ }
+{
+    let w = sound::weigh(head, source, &mut *work);
+    let entries = target.len();
+    let s = begin(w, head, place, node, entries);
+    let t = images(source, s, &mut *work);
+    let second = again(t);
+    let mut batch: [u16; 5] = [0; 5];
+    let e = records(source, second, &mut *work, &mut *target, &mut batch);
+    finish(e, head, &mut *work)
+}
+
+// The first pass: the image of each record of the source, in the work.
+fn images(source: &[Record], s: State, work: &mut [u64]) -> State
+    requires { ⌜ MayImage (now source) s (now work) ⌝ }
+    ensures { λ r. ⌜ ImagesDone (now (source .entry)) s (now (work .entry)) r (now (work .exit)) ⌝ }
+{
+    let mut t = s;
+    while t.going {
+        let k = t.at;
+        let r = source[k];
+        t = image_turn(t, r, &mut *work);
+    }
+    t
+}
+
+// The second pass: the new records, in the target.
+fn records(
+    source: &[Record],
+    s: State,
+    work: &mut [u64],
+    target: &mut [Record],
+    batch: &mut [u16],
+) -> State
+    requires { ⌜ MayRecord (now source) s (now work) (now target) (now batch) ⌝ }
+    ensures { λ r. ⌜ RecordsDone (now (source .entry)) s (now (work .entry)) (now (target .entry)) r (now (work .exit)) (now (target .exit)) ⌝ }
+{
+    let mut t = s;
+    while t.going {
+        let k = t.at;
+        let r = source[k];
+        t = record_turn(t, r, &mut *work, &mut *batch);
+        let from = t.from;
+        let count = t.count;
+        table::store(&mut *target, from, &*batch, count);
+    }
+    t
+}

@@ -1,0 +1,41 @@
+-- `whole::finish` gives the answer, and clears the work where it is as long as asked.
+use mathlib.Core.Path.{_∙_, _≡_, ap, refl}
+use Prim.Native.Nat.{min, ℕ}
+use native.Mathlib.Omega.{arith}
+use borrow.Author.Needs.{needs}
+use borrow.Author.Tests.{le-leb, lt-leb}
+use lib.ListN.{length}
+use Rattle.member.specs.Whole.{cleared}
+use Rattle.member.proofs.whole.finish.Statement.{statement}
+use Rattle.member.proofs.whole.finish.Tie as tie
+
+cast-used : tie.Need-cast-used
+cast-used c = search needs
+
+clear-requires : tie.Need-clear-requires
+clear-requires c κs = search needs
+
+same-length : tie.Need-same-length
+same-length c = search needs
+
+returns : tie.Need-returns
+returns c =
+    let done = c .before .before in
+    let start = done .before .before .before .before .before in
+    let a = start .args in
+    let all : min (a .head .used) (length (a .work .now)) ≡ a .head .used = omega (arith, done .before .before .if1 .taken) in
+    record {
+      answer = refl;
+      worked =
+          done .clear .ensures
+          ∙ ap (λ (n : ℕ). cleared n (a .work .now)) all
+          ∙ rw (le-leb (a .head .used) (length (a .work .now)) (done .before .before .if1 .taken));
+    }
+
+returns-2 : tie.Need-returns-2
+returns-2 c =
+    let a = c .before .before .before .args in
+    record { answer = refl; worked = rw (lt-leb (a .head .used) (length (a .work .now)) (c .if1 .left)) }
+
+pub finish-spec : {M : Type 1} → statement M
+finish-spec = tie.close (tie.spec cast-used clear-requires same-length returns returns-2)

@@ -1,0 +1,5 @@
+pub mod Rows
+pub mod Pass
+pub mod Driving
+pub mod Whole
+pub mod Face

@@ -1,0 +1,38 @@
+// Member: whether a set lists a row. One pass upwards over its records, as far as the root.
+ghost use Rattle.member.specs.Face.{Members};
+ghost use Rattle.member.specs.Driving.{Ready, Driven};
+use crate::pass::State;
+use crate::pass::next;
+use crate::whole::begin;
+use crate::whole::finish;
+use paper::Head;
+use paper::Member;
+use paper::Record;
+use sound::weigh;
+
+mod pass;
+mod whole;
+
+// Whether the set lists the row.
+pub fn member(head: Head, table: &[Record], work: &mut [u64], row: &[u16]) -> Member
+    ensures { λ r. ⌜ Members head (now (table .entry)) (now (work .entry)) (now (row .entry)) r (now (work .exit)) ⌝ }
+{
+    let w = weigh(head, table, &mut *work);
+    let s = begin(w, head, row);
+    let e = drive(table, s, &mut *work);
+    finish(e, head, &mut *work)
+}
+
+// All turns, a record each.
+fn drive(table: &[Record], s: State, work: &mut [u64]) -> State
+    requires { ⌜ Ready (now table) s (now work) ⌝ }
+    ensures { λ e. ⌜ Driven (now (table .entry)) s (now (work .entry)) e (now (work .exit)) ⌝ }
+{
+    let mut t = s;
+    while t.going {
+        let k = t.at;
+        let r = table[k];
+        t = next(t, r, &mut *work);
+    }
+    t
+}

@@ -1,0 +1,85 @@
+// The pass: one turn for each record, upwards. Once a record is passed, its cell in the lent work tells whether the record lists the row
+// restricted to its flag: 1 if it does, else 0.
+ghost use mathlib.Core.Path.{_≡_};
+ghost use Prim.Native.Nat.{_<_};
+ghost use lib.ListN.{length};
+ghost use Rattle.member.specs.Rows.{stands};
+ghost use Rattle.member.specs.Pass.{lists, answerOf, Reads, Turns};
+use paper::Member;
+use paper::Record;
+
+// `at` is the record that comes next, `root` the last one. `row` is the row asked for, blank behind its end. `answer` is the present
+// record's: at the end the root's.
+pub(crate) struct State {
+    pub(crate) at: usize,
+    pub(crate) root: usize,
+    pub(crate) row: [u16; 4],
+    pub(crate) answer: Member,
+    pub(crate) going: bool,
+}
+
+// Whether the node stands at each place of the flag.
+fn stands(row: [u16; 4], node: u16, flag: u16) -> bool
+    ensures { λ r. ⌜ r ≡ stands node flag row ⌝ }
+{
+    let mut rest = flag;
+    let mut i = 0;
+    while i < 4 {
+        if rest % 2 == 1 {
+            if node != row[i] {
+                return false;
+            }
+        }
+        rest = rest / 2;
+        i += 1;
+    }
+    true
+}
+
+// Whether the record lists the row restricted to its flag, by its operands' cells.
+fn lists(row: [u16; 4], r: Record, work: &[u64]) -> bool
+    requires { ⌜ (r .left < length (now work)) × (r .right < length (now work)) ⌝ }
+    ensures { λ c. ⌜ c ≡ lists row (now (work .entry)) r ⌝ }
+{
+    if r.kind == 1 {
+        return stands(row, r.node, r.flag);
+    }
+    let left = r.left as usize;
+    let right = r.right as usize;
+    let in_left = work[left] == 1;
+    let in_right = work[right] == 1;
+    if r.kind == 2 {
+        return in_left | in_right;
+    }
+    in_left & in_right
+}
+
+fn answer_of(listed: bool) -> Member
+    ensures { λ r. ⌜ r ≡ answerOf listed ⌝ }
+{
+    if listed {
+        Member::Listed
+    } else {
+        Member::NotListed
+    }
+}
+
+// One turn: the cell of record r.
+pub(crate) fn next(t: State, r: Record, work: &mut [u64]) -> State
+    requires { ⌜ Reads t r (now work) ⌝ }
+    ensures { λ s. ⌜ Turns t r (now (work .entry)) s (now (work .exit)) ⌝ }
+{
+    let at = t.at;
+    let root = t.root;
+    let row = t.row;
+    let listed = lists(row, r, &*work);
+    work[at] = listed as u64;
+    let answer = answer_of(listed);
+    State {
+        at: at + 1,
+        root: root,
+        row: row,
+        answer: answer,
+        going: at < root,
+    }
+}

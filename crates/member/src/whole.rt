@@ -1,0 +1,126 @@
+// The beginning and the end of the question.
+ghost use mathlib.Core.Path.{_≡_};
+ghost use Prim.Native.Nat.{_≤_};
+ghost use lib.ListN.{length};
+ghost use Rattle.paper.specs.Refusals.{entriesFit};
+ghost use Rattle.member.specs.Pass.{stopped};
+ghost use Rattle.member.specs.Rows.{padded};
+ghost use Rattle.member.specs.Whole.{FewPlaces, entryFits, firstOf, startOf, begun, Finishes};
+use crate::pass::State;
+use paper::Head;
+use paper::Member;
+use paper::Place;
+use paper::Refusal;
+use paper::Set;
+use sound::Weighed;
+use sound::clear;
+
+// Whether an entry fits its place: a node of the tree at an open one, blank at a fixed one.
+fn entry_fits(open_place: bool, nodes: u16, entry: u16) -> bool
+    ensures { λ r. ⌜ r ≡ entryFits open_place nodes entry ⌝ }
+{
+    if open_place {
+        entry < nodes
+    } else {
+        entry == Place::BLANK
+    }
+}
+
+// Whether each entry fits its place.
+fn entries_fit(head: Head, row: &[u16]) -> bool
+    ensures { λ r. ⌜ r ≡ entriesFit head 0 (now (row .entry)) ⌝ }
+{
+    let mut rest = head.places;
+    let mut i = 0;
+    while i < row.len() {
+        if !entry_fits(rest % 2 == 1, head.nodes, row[i]) {
+            return false;
+        }
+        rest = rest / 2;
+        i += 1;
+    }
+    true
+}
+
+// The row, blank behind its end.
+fn padded(row: &[u16]) -> [u16; 4]
+    requires { ⌜ length (now row) ≤ 4 ⌝ }
+    ensures { λ r. ⌜ r ≡ padded (now (row .entry)) ⌝ }
+{
+    let mut four = [Place::BLANK; 4];
+    let mut i = 0;
+    while i < row.len() {
+        four[i] = row[i];
+        i += 1;
+    }
+    four
+}
+
+// No record has to be looked at.
+fn stopped(answer: Member) -> State
+    ensures { λ s. ⌜ s ≡ stopped answer ⌝ }
+{
+    State {
+        at: 0,
+        root: 0,
+        row: [Place::BLANK; 4],
+        answer: answer,
+        going: false,
+    }
+}
+
+// The first record, where there is one, for a row that fits. Empty lists no row, unit the one that is all blank.
+fn first(set: Set, row: &[u16]) -> State
+    requires { ⌜ length (now row) ≤ 4 ⌝ }
+    ensures { λ s. ⌜ s ≡ firstOf set (now (row .entry)) ⌝ }
+{
+    match set {
+        Set::Empty => stopped(Member::NotListed),
+        Set::Unit => stopped(Member::Listed),
+        Set::Record(root) => State {
+            at: 0,
+            root: root as usize,
+            row: padded(row),
+            answer: Member::NotListed,
+            going: true,
+        },
+    }
+}
+
+// A sound set and a row: 13, then 8.
+fn start(head: Head, row: &[u16]) -> State
+    requires { ⌜ head .arity ≤ 4 ⌝ }
+    ensures { λ s. ⌜ s ≡ startOf head (now (row .entry)) ⌝ }
+{
+    if row.len() != head.arity as usize {
+        return stopped(Member::Refused(Refusal::RowLength));
+    }
+    if !entries_fit(head, row) {
+        return stopped(Member::Refused(Refusal::Node));
+    }
+    let set = head.set;
+    first(set, row)
+}
+
+// The pass before its first turn; or stopped, with a refusal or with the answer.
+pub(crate) fn begin(w: Weighed, head: Head, row: &[u16]) -> State
+    requires { ⌜ FewPlaces w head ⌝ }
+    ensures { λ s. ⌜ s ≡ begun w head (now (row .entry)) ⌝ }
+{
+    match w {
+        Weighed::Refused(why) => stopped(Member::Refused(why)),
+        Weighed::Sound => start(head, row),
+    }
+}
+
+// The answer. The work is cleared where it is as long as asked.
+pub(crate) fn finish(t: State, head: Head, work: &mut [u64]) -> Member
+    ensures { λ r. ⌜ Finishes t head (now (work .entry)) r (now (work .exit)) ⌝ }
+{
+    let used = head.used as usize;
+    if used <= work.len() {
+        clear(&mut *work, used);
+    }
+    let answer = t.answer;
+    answer
+}

@@ -1,0 +1,10 @@
+pub mod Shifts
+pub mod Clearing
+pub mod Marking
+pub mod StateShape
+pub mod Operands
+pub mod Standing
+pub mod Made
+pub mod Passing
+pub mod Projecting
+pub mod Facing

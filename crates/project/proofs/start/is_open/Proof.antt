@@ -1,0 +1,29 @@
+-- `start::is_open` tests the place as the paper does.
+use native.Mathlib.Omega.{arith}
+use borrow.Author.Tests.{le-leb, lt-leb}
+use borrow.Author.Needs.{needs}
+use Rattle.project.proofs.start.is_open.Statement.{statement}
+use Rattle.project.proofs.start.is_open.Tie as tie
+
+returns : tie.Need-returns
+returns c = rw (lt-leb 1 (c .before .args .place) (omega arith))
+
+returns-2 : tie.Need-returns-2
+returns-2 c = let a = c .before .before .before .args in rw (le-leb 1 (a .place) (omega arith), lt-leb (a .place) (a .head .arity) (omega arith))
+
+sub-has-place : tie.Need-sub-has-place
+sub-has-place c = search needs
+
+cast-has-place : tie.Need-cast-has-place
+cast-has-place c = search needs
+
+has-place-requires : tie.Need-has-place-requires
+has-place-requires c κs = search needs
+
+returns-3 : tie.Need-returns-3
+returns-3 c = let a = c .before .before .before .before .args in rw (le-leb 1 (a .place) (omega arith), le-leb (a .place) (a .head .arity) (omega arith)) (c .has-place .ensures)
+
+pub is-open-spec : {M : Type 1} → statement M
+is-open-spec =
+    tie.close
+    (tie.spec returns returns-2 sub-has-place cast-has-place has-place-requires returns-3)

@@ -1,0 +1,4 @@
+pub mod Passing
+pub mod Starting
+pub mod Marks
+pub mod Face

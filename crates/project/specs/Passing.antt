@@ -1,0 +1,66 @@
+-- The pass over the records, from the root down: what becomes of the cells at one record, and at all of them; then the turns.
+use mathlib.Core.Bool.{false, cond}
+use mathlib.Core.List.{List}
+use mathlib.Core.Path.{_≡_}
+use Prim.Native.Nat.{ℕ, zero, suc, _+_, _-_, _≤_, _<_}
+use lib.Dec.{eqb}
+use lib.ListN.{length, getD, set}
+use Rattle.paper.specs.Questions.{hasPlace}
+use Rattle.paper.specs.Sound.{entry}
+pub use Rattle.paper.specs.declared.Record.{Record}
+pub use Rattle.project.specs.declared.state.State.{State}
+
+-- ---- cells
+-- what a single keeps: its node and 1 more, if it has the place with this index
+abbrev pub kept : ℕ → Record → ℕ
+kept index r = cond (hasPlace (r .flag) index) (r .node + 1) 0
+
+-- the cells after record k: a marked single keeps its node, and any other marked record hands its mark on to its operands
+abbrev pub cellsAfter : ℕ → ℕ → Record → List ℕ → List ℕ
+cellsAfter index k r cells =
+    cond (eqb (getD cells k 0) 1)
+    (cond (eqb (r .kind) 1) (set cells k (kept index r)) (set (set (set cells k 0) (r .left) 1) (r .right) 1))
+    cells
+
+-- after the first n records, the last of them first
+abbrev pub passed : ℕ → List Record → ℕ → List ℕ → List ℕ
+passed index table zero cells = cells
+passed index table (suc k) cells = passed index table k (cellsAfter index k (entry table k) cells)
+
+-- ---- turns
+-- a record's own cell and those of its operands are in the work
+pub record InWork (at index : ℕ) (r : Record) (work : List ℕ) : Type 0 where
+  pub index-small : index < 16
+  pub own : at < length work
+  pub left : r .left < length work
+  pub right : r .right < length work
+
+-- on to the record below, if there is one
+abbrev pub further : State → State
+further t = record {
+  at = t .at - 1;
+  index = t .index;
+  used = t .used;
+  nodes = t .nodes;
+  answer = t .answer;
+  going = cond (eqb (t .at) 0) false (t .going);
+}
+
+pub record Passes (t : State) (r : Record) (work : List ℕ) (s : State) (work′ : List ℕ) : Type 0 where
+  pub state : s ≡ further t
+  pub worked : work′ ≡ cellsAfter (t .index) (t .at) r work
+
+-- the records that are still to be looked at
+abbrev pub turnsLeft : State → ℕ
+turnsLeft t = cond (t .going) (suc (t .at)) 0
+
+-- each of them is in the table, and its cells are in the work
+pub record Ready (table : List Record) (s : State) (work : List ℕ) : Type 0 where
+  pub there : turnsLeft s ≤ length table
+  pub cells : (k : ℕ) → k < turnsLeft s → InWork k (s .index) (entry table k) work
+
+pub record Driven (table : List Record) (s : State) (work : List ℕ) (r : State) (work′ : List ℕ) : Type 0 where
+  pub used : r .used ≡ s .used
+  pub nodes : r .nodes ≡ s .nodes
+  pub answer : r .answer ≡ s .answer
+  pub worked : work′ ≡ passed (s .index) table (turnsLeft s) work

@@ -1,0 +1,47 @@
+// Project: a byte 1 for each node that stands at a place in some row of a set, else 0. One pass downwards from the root marks the
+// records under it; the singles that are met keep their nodes in the work.
+ghost use Rattle.project.specs.Face.{Projects};
+ghost use Rattle.project.specs.Passing.{Ready, Driven};
+use crate::marks::finish;
+use crate::pass::next;
+use crate::start::begin;
+use crate::state::State;
+use paper::Head;
+use paper::Projected;
+use paper::Record;
+
+mod marks;
+mod pass;
+mod start;
+mod state;
+
+// The marks of a place's nodes, in the lent output.
+pub fn project(
+    head: Head,
+    table: &[Record],
+    work: &mut [u64],
+    place: u16,
+    out: &mut [u8],
+) -> Projected
+    ensures { λ r. ⌜ Projects head (now (table .entry)) (now (work .entry)) place (now (out .entry)) r (now (work .exit)) (now (out .exit)) ⌝ }
+{
+    let w = sound::weigh(head, table, &mut *work);
+    let room = out.len();
+    let s = begin(w, head, &mut *work, place, room);
+    let e = drive(table, s, &mut *work);
+    finish(e, &mut *work, &mut *out)
+}
+
+// All turns, from the root down to record 0.
+fn drive(table: &[Record], s: State, work: &mut [u64]) -> State
+    requires { ⌜ Ready (now table) s (now work) ⌝ }
+    ensures { λ r. ⌜ Driven (now (table .entry)) s (now (work .entry)) r (now (work .exit)) ⌝ }
+{
+    let mut t = s;
+    while t.going {
+        let k = t.at;
+        let r = table[k];
+        t = next(t, r, &mut *work);
+    }
+    t
+}

@@ -1,0 +1,61 @@
+// The end of a projection: the nodes that the work keeps are marked in the output, and the work is cleared.
+ghost use mathlib.Core.Path.{_≡_};
+ghost use Prim.Native.Nat.{_≤_};
+ghost use lib.ListN.{length, replicate, take};
+ghost use Rattle.paper.specs.Refusals.{over};
+ghost use Rattle.project.specs.Marks.{Kept, Marking, marksIn, Finishable, Finishes};
+use crate::state::State;
+use paper::Projected;
+
+// The first n bytes, set to 0.
+fn unmark(out: &mut [u8], n: usize)
+    requires { ⌜ n ≤ length (now out) ⌝ }
+    ensures { λ _. ⌜ now (out .exit) ≡ over (replicate n 0) (now (out .entry)) ⌝ }
+{
+    let mut i = 0;
+    while i < n {
+        out[i] = 0;
+        i += 1;
+    }
+}
+
+// A byte 1 for each node that one of the first n cells keeps. The cells are cleared.
+fn mark(work: &mut [u64], n: usize, out: &mut [u8])
+    requires { ⌜ Kept (now work) n (length (now out)) ⌝ }
+    ensures { λ _. ⌜ Marking (now (work .entry)) n (now (out .entry)) (now (work .exit)) (now (out .exit)) ⌝ }
+{
+    let mut i = 0;
+    while i < n {
+        let cell = work[i];
+        work[i] = 0;
+        if cell != 0 {
+            let node = (cell - 1) as usize;
+            out[node] = 1;
+        }
+        i += 1;
+    }
+}
+
+// A byte for each node, by the first cells. The cells are cleared.
+fn write_marks(work: &mut [u64], used: usize, out: &mut [u8], nodes: usize)
+    requires { ⌜ Kept (now work) used nodes × (nodes ≤ length (now out)) ⌝ }
+    ensures { λ _. ⌜ (now (work .exit) ≡ over (replicate used 0) (now (work .entry)))
+        × (now (out .exit) ≡ over (marksIn (take used (now (work .entry))) nodes) (now (out .entry))) ⌝ }
+{
+    unmark(&mut *out, nodes);
+    mark(&mut *work, used, &mut *out);
+}
+
+pub(crate) fn finish(e: State, work: &mut [u64], out: &mut [u8]) -> Projected
+    requires { ⌜ Finishable e (now work) (now out) ⌝ }
+    ensures { λ r. ⌜ Finishes e (now (work .entry)) (now (out .entry)) r (now (work .exit)) (now (out .exit)) ⌝ }
+{
+    let answer = e.answer;
+    match answer {
+        Projected::Refused(why) => Projected::Refused(why),
+        Projected::Marks => {
+            write_marks(&mut *work, e.used, &mut *out, e.nodes);
+            Projected::Marks
+        }
+    }
+}

@@ -1,0 +1,89 @@
+// The beginning of a projection: the refusals, the cleared work, and the root's mark.
+ghost use mathlib.Core.Path.{_≡_};
+ghost use Prim.Native.Nat.{_≤_};
+ghost use Rattle.paper.specs.Refusals.{isOpen};
+ghost use Rattle.project.specs.Starting.{Startable, Beginnable, refusedState, rootState, rootMarked, started, startedWork, Begins};
+use crate::pass::has_place;
+use crate::state::State;
+use paper::Head;
+use paper::Projected;
+use paper::Refusal;
+use paper::Set;
+use sound::Weighed;
+
+fn is_open(head: Head, place: u16) -> bool
+    requires { ⌜ head .arity ≤ 4 ⌝ }
+    ensures { λ r. ⌜ r ≡ isOpen head place ⌝ }
+{
+    if place == 0 {
+        return false;
+    }
+    if head.arity < place {
+        return false;
+    }
+    has_place(head.places, (place - 1) as usize)
+}
+
+fn refused(why: Refusal) -> State
+    ensures { λ s. ⌜ s ≡ refusedState why ⌝ }
+{
+    State {
+        at: 0,
+        index: 0,
+        used: 0,
+        nodes: 0,
+        answer: Projected::Refused(why),
+        going: false,
+    }
+}
+
+// The pass at the root, if the set has one: its record is marked.
+fn at_root(head: Head, work: &mut [u64], place: u16) -> State
+    requires { ⌜ (1 ≤ place) × Startable head (now work) ⌝ }
+    ensures { λ s. ⌜ (s ≡ rootState head place (head .set)) × (now (work .exit) ≡ rootMarked (head .set) (now (work .entry))) ⌝ }
+{
+    let mut s = State {
+        at: 0,
+        index: (place - 1) as usize,
+        used: head.used as usize,
+        nodes: head.nodes as usize,
+        answer: Projected::Marks,
+        going: false,
+    };
+    let set = head.set;
+    match set {
+        Set::Empty => s,
+        Set::Unit => s,
+        Set::Record(root) => {
+            s.at = root as usize;
+            s.going = true;
+            work[root as usize] = 1;
+            s
+        }
+    }
+}
+
+// Refusals 7 and 10, or the pass over a sound set.
+fn start(head: Head, work: &mut [u64], place: u16, room: usize) -> State
+    requires { ⌜ Startable head (now work) ⌝ }
+    ensures { λ s. ⌜ (s ≡ started head place room) × (now (work .exit) ≡ startedWork head place room (now (work .entry))) ⌝ }
+{
+    sound::clear(&mut *work, head.used as usize);
+    if !is_open(head, place) {
+        return refused(Refusal::Place);
+    }
+    if room < head.nodes as usize {
+        return refused(Refusal::ShortOutput);
+    }
+    at_root(head, &mut *work, place)
+}
+
+pub(crate) fn begin(w: Weighed, head: Head, work: &mut [u64], place: u16, room: usize) -> State
+    requires { ⌜ Beginnable w head (now work) ⌝ }
+    ensures { λ s. ⌜ Begins w head (now (work .entry)) place room s (now (work .exit)) ⌝ }
+{
+    match w {
+        Weighed::Refused(why) => refused(why),
+        Weighed::Sound => start(head, &mut *work, place, room),
+    }
+}

@@ -1,0 +1,13 @@
+// Where a projection stands between two turns.
+use paper::Projected;
+
+// `at` is the record that is looked at next, `index` the place's, from 0. The others stay: the records used, the nodes, and the answer,
+// which is a refusal only where no turn is taken.
+pub(crate) struct State {
+    pub(crate) at: usize,
+    pub(crate) index: usize,
+    pub(crate) used: usize,
+    pub(crate) nodes: usize,
+    pub(crate) answer: Projected,
+    pub(crate) going: bool,
+}

@@ -1,0 +1,11 @@
+pub mod Flags
+pub mod Turns
+pub mod RowNumbers
+pub mod Leading
+pub mod Descents
+pub mod Onward
+pub mod StateShape
+pub mod Writing
+pub mod Beginnings
+pub mod Searching
+pub mod Facing

@@ -1,0 +1,4 @@
+pub mod Descent
+pub mod Descending
+pub mod Whole
+pub mod Face

@@ -1,0 +1,76 @@
+// One turn of a descent: to the operand that the row comes from, or, at a single, on to the next open place.
+ghost use mathlib.Core.Path.{_≡_};
+ghost use Prim.Native.Nat.{_<_};
+ghost use Rattle.row.specs.Descent.{Readable, Steps, rowsAt, lower, placed, unionSide, productSide};
+use crate::flag::has_place;
+use crate::flag::open_from;
+use crate::state::State;
+use paper::Record;
+
+// The descent goes on at row `number` of record `at`.
+fn go_down(t: State, at: usize, number: u64) -> State
+    ensures { λ s. ⌜ s ≡ lower t at number ⌝ }
+{
+    let mut s = t;
+    s.at = at;
+    s.number = number;
+    s
+}
+
+// The node stands at the place, and the descent for the next open place begins at the root.
+fn place_node(t: State, node: u16) -> State
+    requires { ⌜ t .place < 4 ⌝ }
+    ensures { λ s. ⌜ s ≡ placed t node ⌝ }
+{
+    let place = t.place;
+    let mut s = t;
+    s.row[place] = node;
+    s.place = open_from(t.asked.places, place + 1);
+    s.at = t.asked.root;
+    s.number = t.asked.number;
+    s.going = s.place < 4;
+    s
+}
+
+// A union lists its left rows, then its right ones.
+fn union_side(t: State, r: Record, work: &[u64]) -> State
+    requires { ⌜ Readable t r (now work) ⌝ }
+    ensures { λ s. ⌜ s ≡ unionSide t r (now (work .entry)) ⌝ }
+{
+    let left = r.left as usize;
+    let rows = work[left] / 16;
+    if t.number < rows {
+        return go_down(t, left, t.number);
+    }
+    go_down(t, r.right as usize, t.number - rows)
+}
+
+// A product lists, for each left row, every right row. The place is one of the left factor or one of the right.
+fn product_side(t: State, r: Record, work: &[u64]) -> State
+    requires { ⌜ Readable t r (now work) ⌝ }
+    requires { ⌜ 0 < rowsAt (now work) (r .right) ⌝ }
+    ensures { λ s. ⌜ s ≡ productSide t r (now (work .entry)) ⌝ }
+{
+    let left = r.left as usize;
+    let right = r.right as usize;
+    let rows = work[right] / 16;
+    let flag = (work[left] % 16) as u16;
+    if has_place(flag, t.place) {
+        return go_down(t, left, t.number / rows);
+    }
+    go_down(t, right, t.number % rows)
+}
+
+pub(crate) fn next(t: State, r: Record, work: &mut [u64]) -> State
+    requires { ⌜ Readable t r (now work) ⌝ }
+    ensures { λ s. ⌜ Steps t r (now (work .entry)) s (now (work .exit)) ⌝ }
+{
+    let kind = r.kind;
+    if kind == 1 {
+        return place_node(t, r.node);
+    }
+    if kind == 2 {
+        return union_side(t, r, &*work);
+    }
+    product_side(t, r, &*work)
+}

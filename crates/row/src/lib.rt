@@ -1,0 +1,41 @@
+// Row by number: for each open place a descent from the root, by the numbers of rows that `weigh` has left in the work.
+ghost use Rattle.row.specs.Descending.{Ready, Descended};
+ghost use Rattle.row.specs.Face.{Numbers};
+use crate::descent::next;
+use crate::state::State;
+use crate::whole::begin;
+use crate::whole::finish;
+use paper::Head;
+use paper::Record;
+use paper::Written;
+use sound::weigh;
+
+mod descent;
+mod flag;
+mod state;
+mod whole;
+
+// The row with this number, one entry a place, in the first entries of `out`.
+pub fn row(head: Head, table: &[Record], work: &mut [u64], number: u64, out: &mut [u16]) -> Written
+    ensures { λ r. ⌜ Numbers head (now (table .entry)) (now (work .entry)) number (now (out .entry)) r (now (work .exit)) (now (out .exit)) ⌝ }
+{
+    let w = weigh(head, table, &mut *work);
+    let room = out.len();
+    let s = begin(w, head, &mut *work, number, room);
+    let e = drive(table, s, &mut *work);
+    finish(e, &mut *work, &mut *out)
+}
+
+// All descents, one record a turn.
+fn drive(table: &[Record], s: State, work: &mut [u64]) -> State
+    requires { ⌜ Ready (now table) s (now work) ⌝ }
+    ensures { λ e. ⌜ Descended (now (table .entry)) s (now (work .entry)) e (now (work .exit)) ⌝ }
+{
+    let mut t = s;
+    while t.going {
+        let k = t.at;
+        let r = table[k];
+        t = next(t, r, &mut *work);
+    }
+    t
+}

@@ -1,0 +1,24 @@
+// Where the search for a row stands between two turns.
+use paper::Written;
+
+// What is asked for, which stays: row `number` of record `root`, that fills `places`, in a set of so many places and used records.
+// `answer` is a refusal only where no turn is taken; the arity is then 0, so that nothing is written.
+pub(crate) struct Asked {
+    pub(crate) number: u64,
+    pub(crate) root: usize,
+    pub(crate) arity: usize,
+    pub(crate) used: usize,
+    pub(crate) places: u16,
+    pub(crate) answer: Written,
+}
+
+// The node at the place with index `place` is that of row `number` of record `at`. `row` has the nodes of the places before it, and
+// is blank at the others.
+pub(crate) struct State {
+    pub(crate) at: usize,
+    pub(crate) number: u64,
+    pub(crate) place: usize,
+    pub(crate) row: [u16; 4],
+    pub(crate) asked: Asked,
+    pub(crate) going: bool,
+}

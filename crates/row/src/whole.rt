@@ -1,0 +1,128 @@
+// The beginning and the end of the search for a row.
+ghost use mathlib.Core.Path.{_≡_};
+ghost use Prim.Native.Nat.{_≤_, _<_};
+ghost use lib.ListN.{length, take};
+ghost use Rattle.paper.specs.Refusals.{over};
+ghost use Rattle.row.specs.Whole.{InWork, Weighty, countIn, rootIn, atRoot, refusedWith, started, Begins, Writable, Finishes};
+use crate::flag::open_from;
+use crate::state::Asked;
+use crate::state::State;
+use paper::Flag;
+use paper::Head;
+use paper::Place;
+use paper::Refusal;
+use paper::Set;
+use paper::Written;
+use sound::Weighed;
+use sound::clear;
+
+// How many rows a set lists, by the weights of its records.
+fn count_in(set: Set, work: &[u64]) -> u64
+    requires { ⌜ InWork set (now work) ⌝ }
+    ensures { λ n. ⌜ n ≡ countIn set (now (work .entry)) ⌝ }
+{
+    match set {
+        Set::Empty => 0,
+        Set::Unit => 1,
+        Set::Record(i) => work[i as usize] / 16,
+    }
+}
+
+// The record where the descents begin. Empty and unit have none, and no descent.
+fn root_in(set: Set) -> usize
+    ensures { λ i. ⌜ i ≡ rootIn set ⌝ }
+{
+    match set {
+        Set::Empty => 0,
+        Set::Unit => 0,
+        Set::Record(i) => i as usize,
+    }
+}
+
+// The descent for a place begins at the root. Index 4 is no place, and no descent.
+fn at_root(asked: Asked, place: usize) -> State
+    ensures { λ s. ⌜ s ≡ atRoot asked place ⌝ }
+{
+    State {
+        at: asked.root,
+        number: asked.number,
+        place: place,
+        row: [Place::BLANK; 4],
+        asked: asked,
+        going: place < 4,
+    }
+}
+
+// No turn is taken, and nothing written; so many numbers of the work are cleared.
+fn refused(why: Refusal, used: usize) -> State
+    ensures { λ s. ⌜ s ≡ refusedWith why used ⌝ }
+{
+    let asked = Asked {
+        number: 0,
+        root: 0,
+        arity: 0,
+        used: used,
+        places: Flag::NONE,
+        answer: Written::Refused(why),
+    };
+    at_root(asked, 4)
+}
+
+// Of a sound set: the first descent, for the first open place.
+fn start(head: Head, work: &[u64], number: u64, room: usize) -> State
+    requires { ⌜ InWork (head .set) (now work) ⌝ }
+    ensures { λ s. ⌜ s ≡ started head (now (work .entry)) number room ⌝ }
+{
+    let set = head.set;
+    let used = head.used as usize;
+    let arity = head.arity as usize;
+    if count_in(set, work) <= number {
+        return refused(Refusal::RowNumber, used);
+    }
+    if room < arity {
+        return refused(Refusal::ShortOutput, used);
+    }
+    let asked = Asked {
+        number: number,
+        root: root_in(set),
+        arity: arity,
+        used: used,
+        places: head.places,
+        answer: Written::Row,
+    };
+    at_root(asked, open_from(head.places, 0))
+}
+
+// Where the set has been refused, the work stays as it is.
+pub(crate) fn begin(w: Weighed, head: Head, work: &mut [u64], number: u64, room: usize) -> State
+    requires { ⌜ Weighty w head (now work) ⌝ }
+    ensures { λ s. ⌜ Begins w head (now (work .entry)) number room s (now (work .exit)) ⌝ }
+{
+    match w {
+        Weighed::Refused(why) => refused(why, 0),
+        Weighed::Sound => start(head, &*work, number, room),
+    }
+}
+
+// The row's first entries, one a place.
+fn write(row: [u16; 4], arity: usize, out: &mut [u16])
+    requires { ⌜ (arity ≤ 4) × (arity ≤ length (now out)) ⌝ }
+    ensures { λ _. ⌜ now (out .exit) ≡ over (take arity row) (now (out .entry)) ⌝ }
+{
+    let mut i = 0;
+    while i < arity {
+        out[i] = row[i];
+        i += 1;
+    }
+}
+
+pub(crate) fn finish(e: State, work: &mut [u64], out: &mut [u16]) -> Written
+    requires { ⌜ Writable e (now out) ⌝ }
+    ensures { λ r. ⌜ Finishes e (now (work .entry)) (now (out .entry)) r (now (work .exit)) (now (out .exit)) ⌝ }
+{
+    let asked = e.asked;
+    let row = e.row;
+    clear(&mut *work, asked.used);
+    write(row, asked.arity, &mut *out);
+    asked.answer
+}

@@ -1,0 +1,68 @@
+-- What a question knows once `weigh` has answered. The question's tests are those of `weigh`, and then more. Where `weigh` says sound, only
+-- the others are left, and the work has the weights; where it says no, the question's reply is that refusal, and the work is left as it says.
+use mathlib.Core.Bool.{Bool, cond, false, true}
+use mathlib.Core.List.{List, [], _++_, _∷_}
+use mathlib.Core.Path.{_∙_, _≡_, ap, sym}
+use Prim.Native.Nat.{_≤_, ℕ}
+use borrow.Author.Tests.{leb-true}
+use lib.ListN.{length}
+use Rattle.paper.specs.declared.Head.{Head}
+use Rattle.paper.specs.declared.Record.{Record}
+use Rattle.paper.specs.declared.Refusal.{Refusal}
+use Rattle.paper.specs.Answers.{numberOf}
+use Rattle.paper.specs.Questions.{questionWork}
+use Rattle.paper.specs.Refusals.{Reply, Test, answer, askTests, over, refused, unless, workAfter}
+use Rattle.laws.specs.QuestionRows.{Sound as SoundSet}
+use Rattle.laws.proofs.Replies.{Passes, answered, refused-inj, refused-not-answer, unless-append}
+use Rattle.laws.proofs.SoundTest.{sound-is}
+use Rattle.sound.specs.Face.{Weighs}
+use Rattle.sound.specs.Weights.{Weighed, saysWeighed, weighedWork, weighing, weights}
+use Rattle.sound.specs.declared.Weighed.the-variants.{Refused, Sound}
+
+-- a refusal stays, whatever is tested behind it and whatever would be answered
+refused-too : {A B : Type 0} (ts more : List Test) (a : A) (b : B) {n : ℕ} → unless ts a ≡ refused n → unless (ts ++ more) b ≡ refused n
+refused-too [] more a b e = absurd (refused-not-answer (sym e))
+refused-too {A} {B} (t ∷ ts) more a b {n} e = go (t .1) e (refused-too ts more a b)
+  where
+    go : (c : Bool) → cond c (unless ts a) (refused (t .0)) ≡ refused n → (unless ts a ≡ refused n → unless (ts ++ more) b ≡ refused n)
+        → cond c (unless (ts ++ more) b) (refused (t .0)) ≡ refused n
+    go true e′ further = further e′
+    go false e′ further = ap refused (refused-inj e′)
+
+module _ {h : Head} {table : List Record} {work work′ : List ℕ} {r : Weighed} (W : Weighs h table work r work′) where
+  abbrev tests : List Test
+  tests = askTests h table (length work)
+
+  -- ---- the set is sound
+  module _ (said : r ≡ Sound) where
+    passed : weighing h table (length work) ≡ answer tt
+    passed = sym (W .answer) ∙ ap saysWeighed said
+
+    pub sound-passes : Passes tests
+    sound-passes = answered tests passed .0
+
+    pub sound-room : h .used ≤ length work
+    sound-room = leb-true (h .used) (length work) (sound-passes .0)
+
+    pub sound-set : SoundSet h table
+    sound-set = sound-is h table (sound-passes .1 .0)
+
+    pub sound-work : work′ ≡ over (weights h table) work
+    sound-work = W .worked ∙ ap (λ (reply : Reply (Unit {0})). weighedWork reply h table work) passed
+
+    pub sound-reply : {A : Type 0} (more : List Test) (a : A) → unless (tests ++ more) a ≡ unless more a
+    sound-reply more a = unless-append tests more a sound-passes
+
+  -- ---- it is refused
+  module _ {why : Refusal} (said : r ≡ Refused why) {A : Type 0} (more : List Test) (a : A) where
+    refusal : weighing h table (length work) ≡ refused (numberOf why)
+    refusal = sym (W .answer) ∙ ap saysWeighed said
+
+    pub refused-reply : unless (tests ++ more) a ≡ refused (numberOf why)
+    refused-reply = refused-too tests more tt a refusal
+
+    pub refused-work : work′ ≡ workAfter (unless (tests ++ more) a) (questionWork h) work
+    refused-work =
+        W .worked
+        ∙ ap (λ (reply : Reply (Unit {0})). weighedWork reply h table work) refusal
+        ∙ ap (λ (reply : Reply A). workAfter reply (questionWork h) work) (sym refused-reply)

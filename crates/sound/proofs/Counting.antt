@@ -1,0 +1,88 @@
+-- The end of `count`: the two ways out of `finish`; then the public contract, from those of the two calls.
+use mathlib.Core.List.{List, []}
+use mathlib.Core.Path.{_∙_, _≡_, ap, refl, sym}
+use Prim.Native.Nat.{_≤_, min, ℕ}
+use native.Mathlib.Omega.{arith}
+use lib.ListN.{getD, length, replicate}
+use Rattle.paper.specs.declared.Counted.{Counted}
+use Rattle.paper.specs.declared.Counted.the-variants as CountedIs
+use Rattle.paper.specs.declared.Head.{Head}
+use Rattle.paper.specs.declared.Record.{Record}
+use Rattle.paper.specs.declared.Refusal.{Refusal}
+use Rattle.paper.specs.declared.Set.{Set}
+use Rattle.paper.specs.declared.Set.the-variants.{Empty as empty, Unit as unit, Record as at}
+use Rattle.paper.specs.Answers.{saysCounted}
+use Rattle.paper.specs.Questions.{countOf, questionWork}
+use Rattle.paper.specs.Records.{listings, setRows, usedOf}
+use Rattle.paper.specs.Refusals.{Reply, answer, count, over, workAfter}
+use Rattle.laws.specs.QuestionRows.{SetFits, Sound}
+use Rattle.sound.specs.Counting.{Countable, Finishes, SetThere, rowsInSet}
+use Rattle.sound.specs.Face.{Counts, Weighs}
+use Rattle.sound.specs.Weights.{Weighed}
+use Rattle.sound.specs.declared.Weighed.the-variants as WeighedIs
+use Rattle.sound.proofs.Answered.{refused-reply, refused-work, sound-reply, sound-room, sound-set, sound-work}
+use Rattle.sound.proofs.Cells.{behind-cell, cell-rows, weighed-length}
+use Rattle.sound.proofs.Overwriting.{cleared}
+
+-- ---- the two ways out
+module _ (w : Weighed) (h : Head) (work : List ℕ) where
+  pub refused-end : (why : Refusal) → w ≡ WeighedIs.Refused why → Finishes w h work (CountedIs.Refused why) work
+  refused-end why e = record {
+    counts = λ sound. let z : _≡_ {A = ℕ} 0 1 = cc in absurd (omega arith);
+    refuses = λ other f. (cc, refl);
+  }
+
+  pub counted-end : w ≡ WeighedIs.Sound → (rows : ℕ) → rows ≡ rowsInSet work (h .set) → (work′ : List ℕ)
+      → work′ ≡ over (replicate (min (h .used) (length work)) 0) work → Finishes w h work (CountedIs.Rows rows) work′
+  counted-end e rows is work′ left = record {
+    counts = λ _. (ap CountedIs.Rows is, left);
+    refuses = λ why refused. let z : _≡_ {A = ℕ} 0 1 = cc in absurd (omega arith);
+  }
+
+-- ---- the whole
+module _ (h : Head) (table : List Record) (work : List ℕ) (w : Weighed) (weighed : List ℕ) (W : Weighs h table work w weighed) where
+  module _ (sound : w ≡ WeighedIs.Sound) where
+    S : Sound h table
+    S = sound-set W sound
+
+    room : h .used ≤ length work
+    room = sound-room W sound
+
+    long : length weighed ≡ length work
+    long = ap length (sound-work W sound) ∙ weighed-length h table S work room
+
+    set-there : (s : Set) → SetFits h (usedOf h table) s → SetThere weighed s
+    set-there empty fits = tt
+    set-there unit fits = tt
+    set-there (at i) fits = omega (arith, fits .0, room, long)
+
+    -- the rows of the set, by its root's weight
+    set-count : (s : Set) → SetFits h (usedOf h table) s → rowsInSet weighed s ≡ length (setRows (h .arity) (listings (h .arity) (usedOf h table)) s)
+    set-count empty fits = refl
+    set-count unit fits = refl
+    set-count (at i) fits = ap (λ (cells : List ℕ). rowsInSet cells (at i)) (sound-work W sound) ∙ cell-rows h table S work i (fits .0)
+
+  pub countable : Countable w h weighed
+  countable = record { there = λ sound. set-there sound (h .set) (sound-set W sound .set) }
+
+  pub face : (r : Counted) (work′ : List ℕ) → Finishes w h weighed r work′ → Counts h table work r work′
+  face r work′ F = by-answer w refl
+    where
+      by-answer : (v : Weighed) → w ≡ v → Counts h table work r work′
+      by-answer WeighedIs.Sound said =
+          let (rows, left) = F .counts said in
+          let counted : count h table (length work) ≡ answer (countOf h table) = sound-reply W said [] (countOf h table) in
+          record {
+            answer = ap saysCounted rows ∙ ap answer (set-count said (h .set) (sound-set W said .set)) ∙ sym counted;
+            worked =
+                left
+                ∙ cleared work (h .used) weighed (room said) (long said)
+                (λ k l. ap (λ (cells : List ℕ). getD cells k 0) (sound-work W said) ∙ behind-cell h table (sound-set W said) work k l)
+                ∙ ap (λ (reply : Reply ℕ). workAfter reply (questionWork h) work) (sym counted);
+          }
+      by-answer (WeighedIs.Refused why) said =
+          let (refusal, left) = F .refuses why said in
+          record {
+            answer = ap saysCounted refusal ∙ sym (refused-reply W said [] (countOf h table));
+            worked = left ∙ refused-work W said [] (countOf h table);
+          }

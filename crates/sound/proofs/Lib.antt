@@ -1,0 +1,15 @@
+pub mod Flags
+pub mod ByKind
+pub mod Stepping
+pub mod Overwriting
+pub mod Judging
+pub mod RowCounts
+pub mod WeightParts
+pub mod Testing
+pub mod OneMore
+pub mod StateShape
+pub mod Cells
+pub mod Facing
+pub mod Heads
+pub mod Answered
+pub mod Counting

@@ -1,0 +1,31 @@
+-- The three ways out of a step, as `Steps` says them: the record does not fit, it lists no row, or its weight is written.
+use mathlib.Core.Bool.{Bool, cond, false, true}
+use mathlib.Core.List.{List}
+use mathlib.Core.Path.{_∙_, _≡_, ap, refl, sym}
+use Prim.Native.Nat.{_*_, _+_, ℕ}
+use native.Mathlib.Omega.{arith}
+use lib.ListN.{set}
+use Rattle.paper.specs.declared.Record.{Record}
+use Rattle.sound.specs.Steps.{State, Steps, failed, further, recordFits, rowsBy, rowsFound}
+
+module _ (t : State) (r : Record) (work : List ℕ) where
+  -- a record without rows ends the pass
+  ends : rowsFound t r work ≡ 0 → Steps t r work (failed t) work
+  ends none = record { fails = λ _. (refl, refl); passes = λ some. absurd (omega (arith, none, some)) }
+
+  pub fits-not : recordFits r (t .nodes) (t .arity) ≡ false → Steps t r work (failed t) work
+  fits-not e = ends (ap (λ (c : Bool). cond c (rowsBy r (t .at) work) 0) e)
+
+  module _ (fits : recordFits r (t .nodes) (t .arity) ≡ true) where
+    found : rowsFound t r work ≡ rowsBy r (t .at) work
+    found = ap (λ (c : Bool). cond c (rowsBy r (t .at) work) 0) fits
+
+    pub lists-none : rowsBy r (t .at) work ≡ 0 → Steps t r work (failed t) work
+    lists-none none = ends (found ∙ none)
+
+    pub lists-some : (rows : ℕ) → rows ≡ rowsBy r (t .at) work → (rows ≡ 0 → ⊥)
+        → Steps t r work (further t) (set work (t .at) (16 * rows + r .flag))
+    lists-some rows e some = record {
+      fails = λ none. absurd (some (e ∙ sym found ∙ none));
+      passes = λ _. (refl, ap (λ (n : ℕ). set work (t .at) (16 * n + r .flag)) (e ∙ sym found));
+    }

@@ -1,0 +1,16 @@
+-- `record::single_rows` meets its contract: each `return` by the tests that led there.
+use borrow.Author.Tests.{eq-eqb, ne-eqb}
+use Rattle.sound.proofs.record.single_rows.Statement.{statement}
+use Rattle.sound.proofs.record.single_rows.Tie as tie
+
+returns : tie.Need-returns
+returns c = simp (ne-eqb _ _ (c .if1 .taken))
+
+returns-2 : tie.Need-returns-2
+returns-2 c = simp (eq-eqb _ _ (c .before .before .if1 .left), ne-eqb _ _ (c .if2 .taken))
+
+returns-3 : tie.Need-returns-3
+returns-3 c = simp (eq-eqb _ _ (c .before .before .if1 .left), eq-eqb _ _ (c .if2 .left))
+
+pub single-rows-spec : {M : Type 1} → statement M
+single-rows-spec = tie.close (tie.spec returns returns-2 returns-3)

@@ -1,0 +1,137 @@
+// The test of one record after those before it, of which the work has the weights: 16 times the rows that a record lists, and its flag.
+// A sound record lists some row, so 0 rows say that a record is not sound.
+ghost use mathlib.Core.Bool.{_&&_};
+ghost use mathlib.Core.Path.{_≡_};
+ghost use Prim.Native.Nat.{_+_, _/_, _≤_, _<_};
+ghost use lib.Count.{ones};
+ghost use lib.Dec.{eqb};
+ghost use lib.ListN.{length};
+ghost use Rattle.paper.specs.Sound.{apart};
+ghost use Rattle.sound.specs.Steps.{singleRows, unionRows, productRows, rowsBy, recordFits, Weighable, Steps};
+use crate::state::State;
+use paper::Flag;
+use paper::Record;
+
+// The most rows that a record may list.
+const MOST_ROWS: u64 = 281474976710656;
+
+// How many places a flag has.
+fn filled(flag: u64) -> u32
+    ensures { λ n. ⌜ n ≡ ones flag ⌝ }
+{
+    u64::count_ones(flag)
+}
+
+// Whether two flags share no bit and together make the third: then its places are as many as theirs.
+fn together(a: u64, b: u64, flag: u64) -> bool
+    requires { ⌜ (a < 16) × (b < 16) ⌝ }
+    ensures { λ c. ⌜ c ≡ apart a b && eqb (a + b) flag ⌝ }
+{
+    a + b == flag && filled(a) + filled(b) == filled(flag)
+}
+
+// The row of a single.
+fn single_rows(r: Record) -> u64
+    ensures { λ n. ⌜ n ≡ singleRows r ⌝ }
+{
+    if r.left != 0 {
+        return 0;
+    }
+    if r.right != 0 {
+        return 0;
+    }
+    1
+}
+
+// The rows of a union of records with these weights.
+fn union_rows(flag: u64, left: u64, right: u64) -> u64
+    ensures { λ n. ⌜ n ≡ unionRows flag left right ⌝ }
+{
+    if left % 16 != flag {
+        return 0;
+    }
+    if right % 16 != flag {
+        return 0;
+    }
+    let rows = left / 16 + right / 16;
+    if rows <= MOST_ROWS { rows } else { 0 }
+}
+
+// The rows of a product of records with these weights.
+fn product_rows(flag: u64, left: u64, right: u64) -> u64
+    requires { ⌜ 0 < right / 16 ⌝ }
+    ensures { λ n. ⌜ n ≡ productRows flag left right ⌝ }
+{
+    if !together(left % 16, right % 16, flag) {
+        return 0;
+    }
+    let rows = left / 16;
+    let times = right / 16;
+    if rows <= MOST_ROWS / times {
+        rows * times
+    } else {
+        0
+    }
+}
+
+// The rows of record `at`, by its kind and its operands.
+fn rows_by(r: Record, at: usize, work: &[u64]) -> u64
+    requires { ⌜ Weighable at (now work) ⌝ }
+    ensures { λ n. ⌜ n ≡ rowsBy r at (now (work .entry)) ⌝ }
+{
+    let kind = r.kind;
+    let left = r.left as usize;
+    let right = r.right as usize;
+    if kind == 1 {
+        return single_rows(r);
+    }
+    if left >= at {
+        return 0;
+    }
+    if right >= at {
+        return 0;
+    }
+    let flag = r.flag as u64;
+    match kind {
+        2 => union_rows(flag, work[left], work[right]),
+        3 => product_rows(flag, work[left], work[right]),
+        _ => 0,
+    }
+}
+
+// Whether a record has a node of the tree and a flag above none and below 2 to the arity.
+fn record_fits(r: Record, nodes: u16, arity: u16) -> bool
+    requires { ⌜ arity ≤ 4 ⌝ }
+    ensures { λ c. ⌜ c ≡ recordFits r nodes arity ⌝ }
+{
+    if r.node >= nodes {
+        return false;
+    }
+    if r.flag <= Flag::NONE {
+        return false;
+    }
+    r.flag < 1u16 << arity
+}
+
+// Record `at` is tested, and its weight goes into the work.
+pub(crate) fn next(t: State, r: Record, work: &mut [u64]) -> State
+    requires { ⌜ (t .arity ≤ 4) × (t .at < length (now work)) × Weighable (t .at) (now work) ⌝ }
+    ensures { λ e. ⌜ Steps t r (now (work .entry)) e (now (work .exit)) ⌝ }
+{
+    let at = t.at;
+    let mut e = t;
+    e.sound = false;
+    e.going = false;
+    if !record_fits(r, t.nodes, t.arity) {
+        return e;
+    }
+    let rows = rows_by(r, at, &*work);
+    if rows == 0 {
+        return e;
+    }
+    work[at] = 16 * rows + r.flag as u64;
+    e.at = at + 1;
+    e.sound = true;
+    e.going = at + 1 < t.used;
+    e
+}

@@ -1,0 +1,87 @@
+// The beginning and the end of the pass.
+ghost use mathlib.Core.Path.{_≡_};
+ghost use Prim.Native.Nat.{_≤_};
+ghost use lib.ListN.{length};
+ghost use Rattle.sound.specs.Whole.{headFits, begun, setFits, Judges};
+use crate::Weighed;
+use crate::clear;
+use crate::state::State;
+use paper::Flag;
+use paper::Head;
+use paper::Refusal;
+use paper::Set;
+
+// Whether the head's numbers are those of a sound set, over a table of so many entries.
+fn head_fits(head: Head, entries: usize) -> bool
+    ensures { λ c. ⌜ c ≡ headFits head entries ⌝ }
+{
+    if head.nodes < 1 {
+        return false;
+    }
+    if head.nodes > 4095 {
+        return false;
+    }
+    if head.arity < 1 {
+        return false;
+    }
+    if head.arity > 4 {
+        return false;
+    }
+    if head.places >= 1u16 << head.arity {
+        return false;
+    }
+    head.used <= 60000 && head.used as usize <= entries
+}
+
+// The pass stands at the first record, if the head fits and the work is long enough.
+pub(crate) fn begin(head: Head, entries: usize, cells: usize) -> State
+    ensures { λ s. ⌜ s ≡ begun head entries cells ⌝ }
+{
+    let mut s = State {
+        at: 0,
+        used: head.used as usize,
+        nodes: head.nodes,
+        arity: head.arity,
+        sound: false,
+        going: false,
+    };
+    if s.used > cells {
+        return s;
+    }
+    if !head_fits(head, entries) {
+        return s;
+    }
+    s.sound = true;
+    s.going = 0 < s.used;
+    s
+}
+
+// Whether the set fits its records, of which the work has the weights.
+fn set_fits(head: Head, work: &[u64]) -> bool
+    requires { ⌜ head .used ≤ length (now work) ⌝ }
+    ensures { λ c. ⌜ c ≡ setFits head (now (work .entry)) (head .set) ⌝ }
+{
+    let set = head.set;
+    match set {
+        Set::Empty => true,
+        Set::Unit => head.places == Flag::NONE,
+        Set::Record(i) => i < head.used && work[i as usize] % 16 == head.places as u64,
+    }
+}
+
+// The answer, after the pass. Where the set is not sound the work is cleared.
+pub(crate) fn judge(t: State, head: Head, work: &mut [u64]) -> Weighed
+    ensures { λ r. ⌜ Judges t head (now (work .entry)) r (now (work .exit)) ⌝ }
+{
+    let used = head.used as usize;
+    if work.len() < used {
+        return Weighed::Refused(Refusal::ShortWork);
+    }
+    if t.sound {
+        if set_fits(head, &*work) {
+            return Weighed::Sound;
+        }
+    }
+    clear(&mut *work, used);
+    Weighed::Refused(Refusal::NotSound)
+}
