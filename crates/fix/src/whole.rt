@@ -136,10 +136,11 @@ fn answer(t: State, head: Head, work: &[u64]) -> Fixed
     }
     let old = head.set;
     let set = new_set(old, work, t.used);
+    let places = without_place(head.places, t.place);
     Fixed::Set(Head {
         nodes: head.nodes,
         arity: head.arity,
-        places: without_place(head.places, t.place),
+        places: places,
         used: t.made as u16,
         set: set,
     })

@@ -17,7 +17,7 @@ use Rattle.paper.specs.Records.{blankEntry, usedOf}
 use Rattle.paper.specs.Sound.{entry}
 use Rattle.laws.specs.QuestionRows.{Sound}
 use Rattle.laws.proofs.Lists.{which}
-use Rattle.project.specs.Passing.{cellsAfter, kept, passed}
+use Rattle.project.specs.Passing.{cellsAfter, handedOn, isMarked, kept, passed}
 use Rattle.project.proofs.Made.{Lists, Made, joined, made, single}
 
 module _ (h : Head) (table : List Record) (S : Sound h table) (i : ℕ) (inside : i < h .arity) where
@@ -137,7 +137,7 @@ module _ (h : Head) (table : List Record) (S : Sound h table) (i : ℕ) (inside 
           (lists : (n : ℕ) → n < h .nodes
           → Lists h table S i inside k n ↔ (Lists h table S i inside (r .left) n ⊎ Lists h table S i inside (r .right) n)) where
         abbrev handed : List ℕ
-        handed = set (set (set cells k 0) (r .left) 1) (r .right) 1
+        handed = handedOn k r cells
 
         long-handed : length handed ≡ length cells
         long-handed = simp length-set
@@ -189,10 +189,10 @@ module _ (h : Head) (table : List Record) (S : Sound h table) (i : ℕ) (inside 
         })
 
     step : (r : Record) → Made h table S i inside k r → Down (suc k) k cells (cellsAfter i k r cells)
-    step r made = go (eqb (getD cells k 0) 1) refl made
+    step r made = go (isMarked (getD cells k 0)) refl made
       where
-        go : (c : Bool) → eqb (getD cells k 0) 1 ≡ c → Made h table S i inside k r
-            → Down (suc k) k cells (cond c (cond (eqb (r .kind) 1) (set cells k (kept i r)) (set (set (set cells k 0) (r .left) 1) (r .right) 1)) cells)
+        go : (c : Bool) → isMarked (getD cells k 0) ≡ c → Made h table S i inside k r
+            → Down (suc k) k cells (cond c (cond (eqb (r .kind) 1) (set cells k (kept i r)) (handedOn k r cells)) cells)
         go false e m = unmarked (eqb-false (getD cells k 0) 1 e)
         go true e (single kind node lists) = rw (eq-eqb (r .kind) 1 kind) (kept-single r (eqb-true (getD cells k 0) 1 e) node lists)
         go true e (joined kind left right lists) = rw (ne-eqb (r .kind) 1 kind) (handed-on r (eqb-true (getD cells k 0) 1 e) left right lists)

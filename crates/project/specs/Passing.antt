@@ -1,5 +1,5 @@
 -- The pass over the records, from the root down: what becomes of the cells at one record, and at all of them; then the turns.
-use mathlib.Core.Bool.{false, cond}
+use mathlib.Core.Bool.{Bool, false, cond}
 use mathlib.Core.List.{List}
 use mathlib.Core.Path.{_≡_}
 use Prim.Native.Nat.{ℕ, zero, suc, _+_, _-_, _≤_, _<_}
@@ -15,12 +15,18 @@ pub use Rattle.project.specs.declared.state.State.{State}
 abbrev pub kept : ℕ → Record → ℕ
 kept index r = cond (hasPlace (r .flag) index) (r .node + 1) 0
 
--- the cells after record k: a marked single keeps its node, and any other marked record hands its mark on to its operands
+-- the cell of a record under the root that is still to be looked at
+abbrev pub isMarked : ℕ → Bool
+isMarked cell = eqb cell 1
+
+-- record k hands its mark on to its operands
+abbrev pub handedOn : ℕ → Record → List ℕ → List ℕ
+handedOn k r cells = set (set (set cells k 0) (r .left) 1) (r .right) 1
+
+-- the cells after record k: a marked single keeps its node, and any other marked record hands its mark on
 abbrev pub cellsAfter : ℕ → ℕ → Record → List ℕ → List ℕ
 cellsAfter index k r cells =
-    cond (eqb (getD cells k 0) 1)
-    (cond (eqb (r .kind) 1) (set cells k (kept index r)) (set (set (set cells k 0) (r .left) 1) (r .right) 1))
-    cells
+    cond (isMarked (getD cells k 0)) (cond (eqb (r .kind) 1) (set cells k (kept index r)) (handedOn k r cells)) cells
 
 -- after the first n records, the last of them first
 abbrev pub passed : ℕ → List Record → ℕ → List ℕ → List ℕ
