@@ -1,7 +1,7 @@
 #!/usr/bin/env bash
-# Compares the library, through the driver, with two independent programs, on many streams: `records` follows document 01's building
-# order with plain vectors, `markings` tries all markings. The last line is 'N passed, M failed'.
-#   bash tests/compare.sh [WORDS ..]         WORDS go to the comparison, as --seed 5, or --show 17 to see one case
+# Compares the library, through the driver, with two independent programs, on many streams and questions: `records` follows document
+# 01 with plain vectors, `markings` tries all markings. The last line is 'N passed, M failed'.
+#   bash tests/compare.sh [WORDS ..]         WORDS go to the comparison, as --seed 5, or --stream 17 or --group 17 to see one case
 #   bash tests/compare.sh alone [WORDS ..]   the two programs with each other: the test of the tests, with no driver and no library
 # TARN_ARCHIVE=FILE takes another archive than that of crate `c`.
 set -u

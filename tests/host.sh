@@ -1,5 +1,6 @@
-# For the scripts beside it, from the repository's root: builds Rust programs for this host, and C programs on the library's archive.
-# The kit compiles for x86-64. On an Arm host a C program is built for x86-64 too, linked statically, and run under the kit's emulator.
+# For the scripts beside it and in examples/, from the repository's root: builds Rust programs for this host, and C and Fortran
+# programs on the library's archive. The kit compiles for x86-64. On an Arm host a C or Fortran program is built for x86-64 too, linked
+# statically, and run under the kit's emulator.
 
 out=target/tests
 mkdir -p "$out" || exit 2
@@ -11,9 +12,9 @@ give_up() {
     exit 1
 }
 
-# rust_library NAME and rust_program NAME FILE [WORDS ..]: from tests/NAME/lib.rs, and from FILE
+# rust_library NAME [FILE] and rust_program NAME FILE [WORDS ..]: a library is made from tests/NAME/lib.rs, or from FILE
 rust_library() {
-    rustc -O --edition 2021 --crate-type rlib --crate-name "$1" "tests/$1/lib.rs" --out-dir "$out" || give_up "$1 does not compile"
+    rustc -O --edition 2021 --crate-type rlib --crate-name "$1" "${2:-tests/$1/lib.rs}" --out-dir "$out" || give_up "$1 does not compile"
 }
 rust_program() {
     local name=$1 file=$2
@@ -23,20 +24,26 @@ rust_program() {
 
 case $(uname -m) in
 aarch64 | arm64)
-    compiler=x86_64-linux-gnu-gcc compiler_words=(-static)
+    compiler=x86_64-linux-gnu-gcc fortran=x86_64-linux-gnu-gfortran compiler_words=(-static)
+    compiler_packages=(gcc-x86-64-linux-gnu libc6-dev-amd64-cross) fortran_packages=(gfortran-x86-64-linux-gnu)
     runner=("$(cd "$(dirname "$(readlink -f "$(command -v rt)")")/.." && pwd -P)/on/aarch64/toolchain/bin/qemu-x86_64")
     ;;
 *)
-    compiler=gcc compiler_words=() runner=()
+    compiler=gcc fortran=gfortran compiler_words=() compiler_packages=() fortran_packages=() runner=()
     ;;
 esac
 
-# The compiler for x86-64 on an Arm host, where it is missing.
-need_compiler() {
-    command -v "$compiler" >/dev/null && return
-    { apt-get update && apt-get install -y gcc-x86-64-linux-gnu libc6-dev-amd64-cross; } >"$out/apt-get.log" 2>&1 ||
-        give_up "no $compiler, and apt-get cannot install it: see $out/apt-get.log"
+# need PROGRAM [PACKAGES ..]: a compiler, installed where it is missing, on an Arm host
+need() {
+    local program=$1
+    shift
+    command -v "$program" >/dev/null && return
+    [ "$#" -gt 0 ] || give_up "no $program"
+    { apt-get update && apt-get install -y "$@"; } >"$out/apt-get.log" 2>&1 ||
+        give_up "no $program, and apt-get cannot install it: see $out/apt-get.log"
 }
+need_compiler() { need "$compiler" "${compiler_packages[@]}"; }
+need_fortran() { need "$fortran" "${fortran_packages[@]}"; }
 
 # Sets `archive`: TARN_ARCHIVE if that is set, else that of crate `c`, which is proved first if it has changed.
 need_archive() {
@@ -50,6 +57,14 @@ need_archive() {
 c_program() {
     local name=$1 file=$2
     shift 2
-    "$compiler" -O2 -std=c11 -Wall -Wextra "${compiler_words[@]}" -Itests/driver "$@" "$file" "$archive" -o "$out/$name" ||
+    "$compiler" -O2 -std=c11 -Wall -Wextra "${compiler_words[@]}" -Iinclude "$@" "$file" "$archive" -o "$out/$name" ||
+        give_up "$name does not compile or link"
+}
+
+# fortran_program NAME FILES ..
+fortran_program() {
+    local name=$1
+    shift
+    "$fortran" -O2 -std=f2018 -Wall -Wextra "${compiler_words[@]}" -J"$out" "$@" "$archive" -o "$out/$name" ||
         give_up "$name does not compile or link"
 }

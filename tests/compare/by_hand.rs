@@ -1,8 +1,8 @@
 //! Document 01's 'Examples by hand', with the values that the paper says or that were worked out from it by hand; the listing of B
 //! followed by Q as both programs print it; and each clause of 'A set is sound' broken once.
 
-use crate::check::{same, Verdict};
 use crate::tally::Tally;
+use crate::verdict::{same, Verdict};
 use records::questions::Asked;
 use records::set::{is_sound, rows_of, Row};
 use records::{After, Head, Record, Set, BLANK};
@@ -93,7 +93,7 @@ fn head(nodes: u16, used: u16, set: Set) -> Head {
     Head { nodes, arity: 2, open: 3, used, set }
 }
 
-fn set_b() -> (Head, Vec<Record>) {
+pub fn set_b() -> (Head, Vec<Record>) {
     (head(5, 13, Set::At(10)), RECORDS_OF_B.map(record).to_vec())
 }
 
@@ -241,7 +241,7 @@ fn p5() -> Verdict {
     Ok(())
 }
 
-fn fix(set: &(Head, Vec<Record>), place: u64, node: u64) -> Result<(Head, Vec<Record>), u8> {
+pub fn fix(set: &(Head, Vec<Record>), place: u64, node: u64) -> Result<(Head, Vec<Record>), u8> {
     let after = ask(set, |set| set.fix(place, node, &[Record::default(); 13]));
     after.answer.map(|head| (head, after.lent))
 }
@@ -280,9 +280,16 @@ fn fixed_twice() -> Verdict {
     same("fixed twice", fix(&set_b(), 1, 0).and_then(|set| fix(&set, 1, 0)).map(|set| set.0), Err(7))
 }
 
-/// Each clause broken once.
 fn sound() -> Verdict {
     same("B", is_sound(&set_b().0, &set_b().1), true)?;
+    for (what, head, table) in unsound_sets() {
+        same(what, is_sound(&head, &table), false)?;
+    }
+    most_rows()
+}
+
+/// B with each clause broken once, with a word on which.
+pub fn unsound_sets() -> Vec<(&'static str, Head, Vec<Record>)> {
     let heads: [(&str, fn(&mut Head)); 10] = [
         ("no node", |head| head.nodes = 0),
         ("4,096 nodes", |head| head.nodes = 4096),
@@ -295,37 +302,34 @@ fn sound() -> Verdict {
         ("unit with an open place", |head| head.set = Set::Unit),
         ("a node outside of the tree", |head| head.nodes = 4),
     ];
-    for (what, change) in heads {
+    let with_head = |&(what, change): &(&'static str, fn(&mut Head))| {
         let (mut head, table) = set_b();
         change(&mut head);
-        same(what, is_sound(&head, &table), false)?;
-    }
-    sound_records()
-}
-
-/// Entry by entry: the record with its number in B's table, and what it is changed to.
-fn sound_records() -> Verdict {
-    let changes: [(&str, usize, [u16; 5]); 12] = [
-        ("kind 0", 0, [0, 0, 0, 0, 1]),
-        ("kind 4", 0, [4, 0, 0, 0, 1]),
-        ("node 5", 7, [1, 5, 0, 0, 1]),
-        ("flag 0", 7, [1, 3, 0, 0, 0]),
-        ("flag 4", 7, [1, 3, 0, 0, 4]),
-        ("a single with a left", 7, [1, 3, 1, 0, 1]),
-        ("a single with a right", 7, [1, 3, 0, 1, 1]),
-        ("an operand that is the record itself", 12, [2, 4, 6, 12, 2]),
-        ("an operand behind", 9, [3, 4, 5, 12, 3]),
-        ("a union of different places", 12, [2, 4, 6, 7, 2]),
-        ("a product that fills a place twice", 9, [3, 4, 5, 7, 1]),
-        ("a product with a place too many", 4, [3, 2, 0, 2, 3]),
-    ];
-    for (what, number, changed) in changes {
+        (what, head, table)
+    };
+    let with_record = |&(what, number, changed): &(&'static str, usize, [u16; 5])| {
         let (head, mut table) = set_b();
         table[number] = record(changed);
-        same(what, is_sound(&head, &table), false)?;
-    }
-    most_rows()
+        (what, head, table)
+    };
+    heads.iter().map(with_head).chain(UNSOUND_RECORDS.iter().map(with_record)).collect()
 }
+
+/// The record's number in B's table, and what it is changed to.
+const UNSOUND_RECORDS: [(&str, usize, [u16; 5]); 12] = [
+    ("kind 0", 0, [0, 0, 0, 0, 1]),
+    ("kind 4", 0, [4, 0, 0, 0, 1]),
+    ("node 5", 7, [1, 5, 0, 0, 1]),
+    ("flag 0", 7, [1, 3, 0, 0, 0]),
+    ("flag 4", 7, [1, 3, 0, 0, 4]),
+    ("a single with a left", 7, [1, 3, 1, 0, 1]),
+    ("a single with a right", 7, [1, 3, 0, 1, 1]),
+    ("an operand that is the record itself", 12, [2, 4, 6, 12, 2]),
+    ("an operand behind", 9, [3, 4, 5, 12, 3]),
+    ("a union of different places", 12, [2, 4, 6, 7, 2]),
+    ("a product that fills a place twice", 9, [3, 4, 5, 7, 1]),
+    ("a product with a place too many", 4, [3, 2, 0, 2, 3]),
+];
 
 /// A record may list 2 to the power of 48 rows and no more; one that nothing hangs on counts too.
 fn most_rows() -> Verdict {
@@ -362,15 +366,19 @@ fn order_of_refusals() -> Verdict {
 }
 
 /// A single united with itself, under the root or not.
-fn unit_twice() -> Verdict {
+pub fn uniting_units() -> [(Head, Vec<Record>); 2] {
     let table = vec![Record::single(0, 1), record([2, 0, 0, 0, 1]), Record::single(0, 2)];
-    for (root, open) in [(1, 1), (2, 2)] {
-        let head = Head { nodes: 2, arity: 2, open: open | 1, used: 3, set: Set::Empty };
-        let head = if root == 1 { Head { open, set: Set::At(root), ..head } } else { head };
-        let set = (head, table.clone());
-        same("at the node", ask(&set, |set| set.fix(1, 0, &table).answer.err()), Some(12))?;
+    let under_root = Head { nodes: 2, arity: 2, open: 1, used: 3, set: Set::At(1) };
+    let elsewhere = Head { open: 3, set: Set::Empty, ..under_root };
+    [under_root, elsewhere].map(|head| (head, table.clone()))
+}
+
+fn unit_twice() -> Verdict {
+    for set in uniting_units() {
+        let table = &set.1;
+        same("at the node", ask(&set, |set| set.fix(1, 0, table).answer.err()), Some(12))?;
         same("target before 12", ask(&set, |set| set.fix(1, 0, &table[1..]).answer.err()), Some(6))?;
-        same("at another node", ask(&set, |set| set.fix(1, 1, &table).answer.err()), None)?;
+        same("at another node", ask(&set, |set| set.fix(1, 1, table).answer.err()), None)?;
     }
     Ok(())
 }

@@ -1,6 +1,8 @@
 //! The cases: a stream with the buffers lent to its build. Case `number` of a seed is always the same.
 
+use crate::call::{Buffer, Call, Function};
 use crate::damage::{any_bytes, byte_changed, byte_dropped, byte_put_in, cut, record_moved};
+use crate::garbage;
 use crate::limits;
 use crate::random::Random;
 use crate::streams::{any_places_seen, any_valid, any_with_q, dense, grown, Stream};
@@ -13,6 +15,18 @@ pub struct Case {
     pub table: Vec<Record>,
     /// What stands in the head before the call.
     pub head: [u16; 6],
+}
+
+impl Case {
+    pub fn call(&self) -> Call {
+        let lent = vec![
+            ("input byte", Buffer::Bytes(self.input.clone())),
+            ("work entry", Buffer::Numbers(self.work.clone())),
+            ("table entry", Buffer::Records(self.table.clone())),
+            ("head number", Buffer::Shorts(self.head.to_vec())),
+        ];
+        Call { function: Function::Build, numbers: [0, 0], lent }
+    }
 }
 
 /// How much is lent, beside what the build asks for.
@@ -121,8 +135,8 @@ pub fn lend(random: &mut Random, kind: &'static str, input: Vec<u8>, room: Room,
         }
         (room, Ok(needs)) => lengths(random, room, needs.work, needs.records.unwrap_or(longest)),
     };
-    let head = [0; 6].map(|_: u16| random.any() as u16);
-    Case { kind, input, work: garbage_numbers(random, work), table: garbage_records(random, table), head }
+    let (work, table) = (garbage::numbers(random, work), garbage::records(random, table));
+    Case { kind, input, work, table, head: garbage::head(random) }
 }
 
 fn lengths(random: &mut Random, room: Room, work: usize, made: usize) -> (usize, usize) {
@@ -133,30 +147,4 @@ fn lengths(random: &mut Random, room: Room, work: usize, made: usize) -> (usize,
         Room::WorkShort => (work - 1, made.saturating_sub(random.below(2))),
         Room::TableShort => (work, made.saturating_sub(1)),
     }
-}
-
-/// Any numbers, small ones that could be sets, or all ones.
-fn garbage_numbers(random: &mut Random, length: usize) -> Vec<u64> {
-    let style = random.below(3);
-    let number = |_| match style {
-        0 => random.any(),
-        1 => random.below(20) as u64,
-        _ => u64::MAX,
-    };
-    (0..length).map(number).collect()
-}
-
-/// Any entries, entries that could be records, or all ones.
-fn garbage_records(random: &mut Random, length: usize) -> Vec<Record> {
-    let style = random.below(3);
-    let entry = |_| match style {
-        0 => any_entry(|| random.any() as u16),
-        1 => any_entry(|| random.below(4) as u16),
-        _ => any_entry(|| u16::MAX),
-    };
-    (0..length).map(entry).collect()
-}
-
-fn any_entry(mut number: impl FnMut() -> u16) -> Record {
-    Record { kind: number(), node: number(), left: number(), right: number(), flag: number() }
 }

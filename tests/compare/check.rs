@@ -1,16 +1,17 @@
-//! Judges one case: the two programs against each other, and the library, where the driver ran, against both.
+//! Judges one stream: the two programs against each other, and the library, where the driver ran, against both.
 
-use crate::asked;
+use crate::call::{Buffer, Call, Left};
 use crate::cases::Case;
-use crate::driver::Left;
-use crate::random::Random;
+use crate::sets::numbers_of;
+use crate::tally::Tally;
+use crate::trials::{Gave, Trial};
+use crate::verdict::{same, same_entries, Verdict};
 use markings::Stream;
 use records::set::{is_sound, rows_of, Row};
-use records::{After, Head, Record, Set};
-use std::fmt::Debug;
+use records::{After, Head, Record};
 
 /// A tree with more markings than this is not tried.
-const MOST_MARKINGS: u64 = 30_000;
+pub const MOST_MARKINGS: u64 = 30_000;
 
 /// What a case was, for the tally.
 #[derive(Default)]
@@ -23,69 +24,50 @@ pub struct Seen {
     pub entries: usize,
 }
 
-/// The first difference, in words.
-pub type Verdict = Result<(), String>;
+pub struct StreamTrial {
+    pub case: Case,
+    pub number: usize,
+}
 
-pub fn same<T: PartialEq + Debug>(what: &str, got: T, expected: T) -> Verdict {
-    if got == expected {
-        Ok(())
-    } else {
-        Err(format!("{what}: {got:?} and not {expected:?}"))
+impl Trial for StreamTrial {
+    fn call(&self) -> Call {
+        self.case.call()
+    }
+
+    fn judge(&self, gave: Gave, tally: &mut Tally) {
+        let expected = records::build(&self.case.input, &self.case.work, &self.case.table);
+        let mut seen = Seen { answer: expected.answer.err().unwrap_or(0), ..Seen::default() };
+        seen.entries = self.call().entries();
+        seen.records = expected.answer.map_or(0, |head| head.used as usize);
+        let verdict = match gave {
+            Gave::NoDriver => check_rows(&self.case.input, &expected, &expected.lent, &mut seen),
+            Gave::Nothing => Err("the driver gave no answer".to_string()),
+            Gave::Left(left) => self.check(left, &expected, &mut seen),
+        };
+        tally.stream(&self.case, self.number, &seen, verdict);
     }
 }
 
-/// The first entry that differs, and how many do.
-fn same_entries<T: PartialEq + Debug>(what: &str, got: &[T], expected: &[T]) -> Verdict {
-    same(&format!("{what} length"), got.len(), expected.len())?;
-    let different: Vec<usize> = (0..got.len()).filter(|&i| got[i] != expected[i]).collect();
-    match different.first() {
-        None => Ok(()),
-        Some(&i) => Err(format!("{what} {i} ({} differ): {:?} and not {:?}", different.len(), got[i], expected[i])),
+impl StreamTrial {
+    /// Everything that the library left is what `records` says; and the rows of the library's own records are those of all markings.
+    fn check(&self, left: &Left, expected: &After<Head, Vec<Record>>, seen: &mut Seen) -> Verdict {
+        left.is(&self.call(), &self.expected(expected))?;
+        check_rows(&self.case.input, expected, left.lent[2].records(), seen)
     }
-}
 
-/// `left` is what the library left behind, where the driver ran.
-pub fn check(case: &Case, left: Option<&Left>, random: &mut Random) -> (Seen, Verdict) {
-    let expected = records::build(&case.input, &case.work, &case.table);
-    let mut seen = Seen { answer: expected.answer.err().unwrap_or(0), ..Seen::default() };
-    seen.entries = case.work.len() + case.table.len();
-    seen.records = expected.answer.map_or(0, |head| head.used as usize);
-    let verdict = left.map_or(Ok(()), |left| check_left(case, left, &expected));
-    // the rows are listed from the library's own records, once they are known to be sound
-    let table = left.map_or(&expected.lent, |left| &left.table);
-    let verdict = verdict.and_then(|()| check_rows(&case.input, &expected, table, &mut seen, random));
-    (seen, verdict)
-}
-
-/// Everything that the library left, with what `records` says it must be.
-fn check_left(case: &Case, left: &Left, expected: &After<Head, Vec<Record>>) -> Verdict {
-    let head = expected.answer.map_or(case.head, |head| numbers_of(&head));
-    same("answer", left.answer, expected.answer.err().unwrap_or(0))?;
-    same("guards", left.guards, true)?;
-    same_entries("input byte", &left.input, &case.input)?;
-    same("head", left.head, head)?;
-    same_entries("work entry", &left.work, &expected.work)?;
-    same_entries("table entry", &left.table, &expected.lent)
-}
-
-/// A head as C has it.
-fn numbers_of(head: &Head) -> [u16; 6] {
-    let (set, record) = match head.set {
-        Set::Empty => (0, 0),
-        Set::Unit => (1, 0),
-        Set::At(record) => (2, record),
-    };
-    [head.nodes, head.arity, head.open, head.used, set, record]
+    fn expected(&self, after: &After<Head, Vec<Record>>) -> Left {
+        let lent = vec![
+            Buffer::Bytes(self.case.input.clone()),
+            Buffer::Numbers(after.work.clone()),
+            Buffer::Records(after.lent.clone()),
+            Buffer::Shorts(after.answer.map_or(self.case.head, |head| numbers_of(&head)).to_vec()),
+        ];
+        Left { answer: after.answer.err().unwrap_or(0), lent }
+    }
 }
 
 /// `markings` gives the same refusals 1 to 4, and of a small tree the same rows.
-fn check_rows(
-    input: &[u8],
-    expected: &After<Head, Vec<Record>>,
-    table: &[Record],
-    seen: &mut Seen,
-    random: &mut Random,
-) -> Verdict {
+fn check_rows(input: &[u8], expected: &After<Head, Vec<Record>>, table: &[Record], seen: &mut Seen) -> Verdict {
     let said_by_stream = expected.answer.err().filter(|&number| number <= 4);
     let stream = markings::read(input);
     same("refusal by markings and by records", stream.as_ref().err().copied(), said_by_stream)?;
@@ -93,12 +75,10 @@ fn check_rows(
     same("nodes and arity", (stream.nodes(), stream.arity()), (head.nodes as usize, head.arity as usize))?;
     same("sound", is_sound(&head, table), true)?;
     check_bound(input, &head)?;
-    if stream.markings() > MOST_MARKINGS {
-        return Ok(());
+    if stream.markings() <= MOST_MARKINGS {
+        seen.rows = Some(rows_by_markings(&stream, &head, table)?.len());
     }
-    let rows = check_listing(&stream, &head, table)?;
-    seen.rows = Some(rows.len());
-    asked::check_questions(&stream, &head, table, &rows, random)
+    Ok(())
 }
 
 /// The records made are at most 4 times 3 to the arity times rules times nodes, plus one less than the accepting states.
@@ -109,8 +89,8 @@ fn check_bound(input: &[u8], head: &Head) -> Verdict {
     same("records within the bound", head.used as usize <= bound, true)
 }
 
-/// The set's listing, put in ascending order, is what all markings give: the same rows, and none twice.
-fn check_listing(stream: &Stream, head: &Head, table: &[Record]) -> Result<Vec<Row>, String> {
+/// The set's listing; put in ascending order it is what all markings give: the same rows, and none twice.
+pub fn rows_by_markings(stream: &Stream, head: &Head, table: &[Record]) -> Result<Vec<Row>, String> {
     let accepted = stream.accepted_rows();
     let rows = rows_of(head, table, accepted.len()).ok_or("more rows are listed than accepted")?;
     let mut ascending = rows.clone();

@@ -1,50 +1,62 @@
-//! Compares the library with the two programs, on many cases made from a seed, and the two programs with each other.
+//! Compares the library with the two programs, on many streams and questions made from a seed, and the two programs with each other.
 //!
-//!     compare [--seed N] [--show N] [DRIVER ..]
+//!     compare [--seed N] [--stream N] [--group N] [DRIVER ..]
 //!
 //! DRIVER is the command that runs the driver; without it the two programs are compared with each other only, which is the test of
-//! the tests. `--show N` prints case N. The last line is 'N passed, M failed'.
+//! the tests. `--stream N` prints that stream, `--group N` that group of questions. The last line is 'N passed, M failed'.
 
 mod asked;
+mod asking;
 mod by_hand;
+mod by_rows;
+mod call;
 mod cases;
 mod check;
 mod damage;
 mod driver;
+mod fixings;
+mod garbage;
 mod limits;
+mod making;
+mod questions;
 mod random;
+mod set_damage;
+mod set_limits;
+mod sets;
 mod streams;
 mod tally;
+mod trials;
+mod verdict;
 
+use asked::QuestionTrial;
 use cases::{Case, Cases};
-use driver::{Driver, Left};
-use random::Random;
+use check::StreamTrial;
+use driver::Driver;
+use questions::{Group, Groups};
 use std::path::PathBuf;
 use std::process::ExitCode;
 use tally::Tally;
+use trials::Trials;
 
 const SEED: u64 = 20_260_101;
 
-/// A batch goes to the driver in one file.
-const BATCH: usize = 500;
-
-const SETS_BY_HAND: usize = 3_000;
-
 struct Arguments {
     seed: u64,
-    show: Option<usize>,
+    stream: Option<usize>,
+    group: Option<usize>,
     driver: Vec<String>,
 }
 
 fn arguments() -> Arguments {
-    let mut arguments = Arguments { seed: SEED, show: None, driver: Vec::new() };
+    let mut arguments = Arguments { seed: SEED, stream: None, group: None, driver: Vec::new() };
     let mut words = std::env::args().skip(1).peekable();
     while words.peek().is_some_and(|word| word.starts_with("--")) {
         let (word, number) = (words.next(), words.next().and_then(|number| number.parse().ok()));
         match (word.as_deref(), number) {
             (Some("--seed"), Some(number)) => arguments.seed = number,
-            (Some("--show"), Some(number)) => arguments.show = Some(number as usize),
-            _ => panic!("usage: compare [--seed N] [--show N] [DRIVER ..]"),
+            (Some("--stream"), Some(number)) => arguments.stream = Some(number as usize),
+            (Some("--group"), Some(number)) => arguments.group = Some(number as usize),
+            _ => panic!("usage: compare [--seed N] [--stream N] [--group N] [DRIVER ..]"),
         }
     }
     arguments.driver = words.collect();
@@ -59,18 +71,23 @@ fn folder() -> PathBuf {
 
 fn main() -> ExitCode {
     let arguments = arguments();
-    let cases = Cases::of(arguments.seed);
-    if let Some(number) = arguments.show {
+    let (cases, groups) = (Cases::of(arguments.seed), Groups::of(arguments.seed));
+    if let Some(number) = arguments.stream {
         show(&cases.case(number));
+    }
+    if let Some(number) = arguments.group {
+        show_group(&groups.group(number));
+    }
+    if arguments.stream.or(arguments.group).is_some() {
         return ExitCode::SUCCESS;
     }
-    let driver = Driver { command: arguments.driver, file: folder().join("cases") };
-    println!("seed {}, {} streams", arguments.seed, cases.len());
+    println!("seed {}, {} streams, {} groups of questions", arguments.seed, cases.len(), groups.len());
+    let driver = Driver { command: arguments.driver, file: folder().join("calls") };
+    let driver = Some(driver).filter(|driver| !driver.command.is_empty());
     let mut tally = Tally::default();
     by_hand::check_all(&folder(), &mut tally);
-    check_sets_by_hand(arguments.seed, &mut tally);
-    check_cases(&cases, arguments.seed, &driver, &mut tally);
-    tally.print(!driver.command.is_empty());
+    check_all(&cases, &groups, driver.as_ref(), &mut tally);
+    tally.print(driver.is_some());
     if tally.failed() == 0 {
         ExitCode::SUCCESS
     } else {
@@ -78,39 +95,31 @@ fn main() -> ExitCode {
     }
 }
 
-fn check_sets_by_hand(seed: u64, tally: &mut Tally) {
-    for number in 0..SETS_BY_HAND {
-        let mut random = Random::of(!seed, number as u64);
-        tally.own("questions on a set made by hand", &format!("set {number}"), asked::check_set_by_hand(&mut random));
+fn check_all(cases: &Cases, groups: &Groups, driver: Option<&Driver>, tally: &mut Tally) {
+    let mut trials = Trials::with(driver);
+    for number in 0..cases.len() {
+        trials.add(Box::new(StreamTrial { case: cases.case(number), number }), tally);
     }
-}
-
-fn check_cases(cases: &Cases, seed: u64, driver: &Driver, tally: &mut Tally) {
-    for first in (0..cases.len()).step_by(BATCH) {
-        let batch: Vec<Case> = (first..cases.len().min(first + BATCH)).map(|number| cases.case(number)).collect();
-        let ran = if driver.command.is_empty() { None } else { Some(driver.run(&batch).expect("the driver runs")) };
-        for (i, case) in batch.iter().enumerate() {
-            check_case(case, first + i, seed, ran.as_ref().map(|ran| ran.left.get(i)), tally);
-        }
-        if let Some(ran) = ran {
-            tally.own("the driver ends well", &format!("batch at case {first}"), ran.end);
+    for group in 0..groups.len() {
+        let Group { kind, questions, verdict } = groups.group(group);
+        tally.own("sets as they were made", &format!("{kind}, group {group}"), verdict);
+        for (number, asked) in questions.into_iter().enumerate() {
+            trials.add(Box::new(QuestionTrial { kind, group, number, asked }), tally);
         }
     }
-}
-
-/// `left` is none without a driver, and some none where the driver gave no answer.
-fn check_case(case: &Case, number: usize, seed: u64, left: Option<Option<&Left>>, tally: &mut Tally) {
-    // not the numbers that made the case
-    let mut random = Random::of(seed.wrapping_add(1), number as u64);
-    let (seen, mut verdict) = check::check(case, left.flatten(), &mut random);
-    if let Some(None) = left {
-        verdict = Err("the driver gave no answer".to_string());
-    }
-    tally.case(case, number, &seen, verdict);
+    trials.end(tally);
 }
 
 fn show(case: &Case) {
     println!("{}\ninput {:?}", case.kind, case.input);
     println!("head {:?}\nwork {:?}\ntable {:?}", case.head, case.work, case.table);
     println!("{:?}", records::build(&case.input, &case.work, &case.table));
+}
+
+fn show_group(group: &Group) {
+    println!("{}: {:?}", group.kind, group.verdict);
+    for (number, asked) in group.questions.iter().enumerate() {
+        println!("question {number}: {:?}\nrows {:?}", asked.asking, asked.rows);
+        println!("{:?}", asked.asking.expected());
+    }
 }

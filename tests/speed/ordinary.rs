@@ -1,30 +1,17 @@
-//! The benchmark's ordinary Rust program: the same build as the library's, records and slots in Vec, and a plain count, with no checks
-//! and no proof. It takes the stream's bytes, as the library does, so that reading is timed on both sides.
-//! Prints the records made, a sum over all their fields, the rows, and nanoseconds, best of many: build, count, both.
+//! The benchmark's ordinary Rust program: the same build as the library's, records and slots in Vec, and the questions answered plainly,
+//! with no checks and no proof. It takes the stream's bytes, as the library does, so that reading is timed on both sides.
 
-use std::hint::black_box;
-use std::time::Instant;
+use tarnsatchel::{Head, Record, Set, BLANK};
 
-const RUNS: usize = 400;
+pub const SINGLE: u16 = 1;
+pub const UNION: u16 = 2;
+pub const PRODUCT: u16 = 3;
 
-const SINGLE: u16 = 1;
-const UNION: u16 = 2;
-const PRODUCT: u16 = 3;
-
-#[derive(Clone, Copy)]
-struct Record {
-    kind: u16,
-    node: u16,
-    left: u16,
-    right: u16,
-    flag: u16,
-}
-
-#[derive(Clone, Copy, PartialEq)]
-enum Set {
-    Empty,
-    Unit,
-    At(u16),
+/// A set that owns its records.
+#[derive(Clone, Debug, PartialEq)]
+pub struct Built {
+    pub head: Head,
+    pub records: Vec<Record>,
 }
 
 #[derive(Clone, Copy)]
@@ -45,20 +32,6 @@ struct Query {
     states: usize,
     rules: Vec<Rule>,
     accepting: Vec<usize>,
-}
-
-/// 4,095 nodes, each branch of label 9 joining the tree so far with a new leaf of label 5, and Q's rules.
-fn comb() -> Vec<u8> {
-    let mut input = vec![1, 5];
-    for _ in 1..2048 {
-        input.extend([1, 5, 2, 9]);
-    }
-    input.extend([16, 2, 4, 17, 5, 0, 0, 17, 5, 1, 1, 17, 5, 2, 3]);
-    for [left, right, state] in [[0, 0, 0], [1, 3, 2], [0, 2, 2], [2, 0, 2], [1, 0, 1], [0, 1, 1], [3, 0, 3], [0, 3, 3]] {
-        input.extend([18, 9, 0, left, right, state]);
-    }
-    input.extend([19, 2]);
-    input
 }
 
 fn read(input: &[u8]) -> (Vec<Symbol>, Query) {
@@ -107,7 +80,7 @@ struct Building {
 impl Building {
     fn new_record(&mut self, kind: u16, left: u16, right: u16, flag: u16) -> Set {
         self.records.push(Record { kind, node: self.node, left, right, flag });
-        Set::At((self.records.len() - 1) as u16)
+        Set::Record((self.records.len() - 1) as u16)
     }
 
     fn single(&mut self, flag: u16) -> Set {
@@ -120,7 +93,7 @@ impl Building {
 
     fn product(&mut self, flag: u16, left: Set, right: Set) -> Set {
         match (left, right) {
-            (Set::At(left), Set::At(right)) => self.new_record(PRODUCT, left, right, flag),
+            (Set::Record(left), Set::Record(right)) => self.new_record(PRODUCT, left, right, flag),
             (Set::Unit, other) => other,
             (other, _) => other,
         }
@@ -128,7 +101,7 @@ impl Building {
 
     fn union(&mut self, flag: u16, left: Set, right: Set) -> Set {
         match (left, right) {
-            (Set::At(left), Set::At(right)) => self.new_record(UNION, left, right, flag),
+            (Set::Record(left), Set::Record(right)) => self.new_record(UNION, left, right, flag),
             (Set::Empty, other) => other,
             (other, _) => other,
         }
@@ -214,20 +187,25 @@ impl Building {
 }
 
 #[inline(never)]
-fn build(input: &[u8]) -> (Vec<Record>, Set) {
+pub fn build(input: &[u8]) -> Built {
     let (tree, query) = read(input);
+    let (nodes, arity) = (tree.len() as u16, query.arity as u16);
     let mut building = Building { query, node: 0, records: Vec::new() };
     let set = building.tree(&tree);
-    (building.records, set)
+    let records = building.records;
+    Built { head: Head { nodes, arity, open: (1 << arity) - 1, used: records.len() as u16, set }, records }
 }
 
 #[inline(never)]
-fn count(records: &[Record], set: Set) -> u64 {
-    let root = match set {
-        Set::Empty => return 0,
-        Set::Unit => return 1,
-        Set::At(root) => root,
-    };
+pub fn count(built: &Built) -> u64 {
+    match built.head.set {
+        Set::Empty => 0,
+        Set::Unit => 1,
+        Set::Record(root) => counts(&built.records)[root as usize],
+    }
+}
+
+fn counts(records: &[Record]) -> Vec<u64> {
     let mut counts: Vec<u64> = Vec::with_capacity(records.len());
     for record in records {
         let (left, right) = (record.left as usize, record.right as usize);
@@ -237,30 +215,122 @@ fn count(records: &[Record], set: Set) -> u64 {
             _ => counts[left] * counts[right],
         });
     }
-    counts[root as usize]
+    counts
 }
 
-/// By which the records of both sides are known to be the same.
-fn sum_of(records: &[Record]) -> u32 {
-    let fields = records.iter().flat_map(|r| [r.kind, r.node, r.left, r.right, r.flag]);
-    fields.fold(0, |sum: u32, field| sum.wrapping_mul(31).wrapping_add(field as u32))
-}
-
-fn main() {
-    let input = comb();
-    let (mut best_build, mut best_count, mut best_both) = (u128::MAX, u128::MAX, u128::MAX);
-    let (mut used, mut sum, mut rows) = (0, 0, 0);
-    for _ in 0..RUNS {
-        let start = Instant::now();
-        let (records, set) = build(black_box(&input));
-        let built = start.elapsed().as_nanos();
-        rows = black_box(count(&records, set));
-        let both = start.elapsed().as_nanos();
-        used = records.len();
-        sum = sum_of(&records);
-        best_build = best_build.min(built);
-        best_count = best_count.min(both - built);
-        best_both = best_both.min(both);
+#[inline(never)]
+pub fn row(built: &Built, number: u64) -> Vec<u16> {
+    let mut row = vec![BLANK; built.head.arity as usize];
+    if let Set::Record(root) = built.head.set {
+        descend(&built.records, &counts(&built.records), root, number, &mut row);
     }
-    println!("records {used} sum {sum} rows {rows} build {best_build} count {best_count} both {best_both}");
+    row
+}
+
+/// Products nest at most three deep.
+fn descend(records: &[Record], counts: &[u64], mut at: u16, mut number: u64, row: &mut [u16]) {
+    while records[at as usize].kind == UNION {
+        let record = records[at as usize];
+        let lefts = counts[record.left as usize];
+        if number < lefts {
+            at = record.left;
+        } else {
+            number -= lefts;
+            at = record.right;
+        }
+    }
+    let record = records[at as usize];
+    if record.kind == PRODUCT {
+        let rights = counts[record.right as usize];
+        descend(records, counts, record.left, number / rights, row);
+        descend(records, counts, record.right, number % rights, row);
+        return;
+    }
+    for (place, node) in row.iter_mut().enumerate() {
+        if record.flag >> place & 1 == 1 {
+            *node = record.node;
+        }
+    }
+}
+
+#[inline(never)]
+pub fn member(built: &Built, row: &[u16]) -> bool {
+    let root = match built.head.set {
+        Set::Empty => return false,
+        Set::Unit => return true,
+        Set::Record(root) => root,
+    };
+    let mut listed: Vec<bool> = Vec::with_capacity(built.records.len());
+    for record in &built.records {
+        let (left, right) = (record.left as usize, record.right as usize);
+        listed.push(match record.kind {
+            SINGLE => row.iter().enumerate().all(|(place, &node)| record.flag >> place & 1 == 0 || node == record.node),
+            UNION => listed[left] || listed[right],
+            _ => listed[left] && listed[right],
+        });
+    }
+    listed[root as usize]
+}
+
+#[inline(never)]
+pub fn project(built: &Built, place: u16) -> Vec<u8> {
+    let mut marks = vec![0; built.head.nodes as usize];
+    let mut under_root = vec![false; built.records.len()];
+    if let Set::Record(root) = built.head.set {
+        under_root[root as usize] = true;
+    }
+    for (number, record) in built.records.iter().enumerate().rev() {
+        if !under_root[number] {
+            continue;
+        }
+        if record.kind != SINGLE {
+            under_root[record.left as usize] = true;
+            under_root[record.right as usize] = true;
+        } else if record.flag >> (place - 1) & 1 == 1 {
+            marks[record.node as usize] = 1;
+        }
+    }
+    marks
+}
+
+#[inline(never)]
+pub fn fix(built: &Built, place: u16, node: u16) -> Built {
+    let bit = 1 << (place - 1);
+    let mut images: Vec<Set> = Vec::with_capacity(built.records.len());
+    let mut records: Vec<Record> = Vec::new();
+    for old in &built.records {
+        let image = if old.kind == SINGLE {
+            fixed_single(&mut records, old, bit, node)
+        } else {
+            match (old.kind, images[old.left as usize], images[old.right as usize]) {
+                (_, Set::Record(left), Set::Record(right)) => {
+                    new_record(&mut records, Record { left, right, flag: old.flag & !bit, ..*old })
+                }
+                (UNION, Set::Empty, other) | (UNION, other, _) => other,
+                (_, Set::Empty, _) | (_, _, Set::Empty) => Set::Empty,
+                (_, Set::Unit, other) | (_, other, _) => other,
+            }
+        };
+        images.push(image);
+    }
+    let set = match built.head.set {
+        Set::Record(root) => images[root as usize],
+        other => other,
+    };
+    Built { head: Head { open: built.head.open & !bit, used: records.len() as u16, set, ..built.head }, records }
+}
+
+fn fixed_single(records: &mut Vec<Record>, old: &Record, bit: u16, node: u16) -> Set {
+    if old.flag & bit != 0 && old.node != node {
+        Set::Empty
+    } else if old.flag == bit {
+        Set::Unit
+    } else {
+        new_record(records, Record { flag: old.flag & !bit, ..*old })
+    }
+}
+
+fn new_record(records: &mut Vec<Record>, record: Record) -> Set {
+    records.push(record);
+    Set::Record((records.len() - 1) as u16)
 }

@@ -1,0 +1,194 @@
+! Tarnsatchel for Fortran: the six functions of include/tarnsatchel.h, which says what each answers and leaves in its buffers.
+! First the type and the fixed numbers, then the interfaces of the C functions, then the functions over assumed-shape arrays.
+!
+! Each function gives 0 for an answer, else the number of the refusal. Fortran has no unsigned numbers: one of 16 bits above
+! 32,767, a blank place among them, is negative in a head, a record or a row, and tarn_number gives it as it is meant.
+module tarnsatchel
+  use, intrinsic :: iso_c_binding, only: c_int8_t, c_int16_t, c_int64_t, c_size_t
+  implicit none
+  private
+  public :: tarn_record, tarn_number
+  public :: tarn_build, tarn_count, tarn_row, tarn_member, tarn_project, tarn_fix
+
+  ! One entry of the table; all zeros is the blank entry.
+  type, bind(c) :: tarn_record
+    integer(c_int16_t) :: kind, node, left, right, flag
+  end type
+
+  ! What stands where in a head, an array of six.
+  integer, parameter, public :: tarn_nodes = 1, tarn_arity = 2, tarn_open = 3, tarn_used = 4, tarn_set = 5, tarn_at = 6
+  ! The set in a head; tarn_at then has the record's number.
+  integer, parameter, public :: tarn_empty = 0, tarn_unit = 1, tarn_a_record = 2
+  ! The numbers that say no.
+  integer, parameter, public :: tarn_refused_tree = 1, tarn_refused_many_nodes = 2, tarn_refused_query = 3, &
+      tarn_refused_twice = 4, tarn_refused_short_work = 5, tarn_refused_short_table = 6, tarn_refused_place = 7, &
+      tarn_refused_node = 8, tarn_refused_row_number = 9, tarn_refused_short_output = 10, tarn_refused_not_sound = 11, &
+      tarn_refused_unit_twice = 12, tarn_refused_row_length = 13, tarn_refused_long_input = 14
+  ! Stands at a fixed place of a row.
+  integer(c_int16_t), parameter, public :: tarn_blank = -1
+  ! No build asks for more work, and none makes more records.
+  integer, parameter, public :: tarn_most_work = 524544, tarn_most_records = 60000
+
+  interface
+    function c_build(input, input_length, work, work_length, table, table_length, head) result(refused) &
+        bind(c, name='tarn_build')
+      import :: c_int8_t, c_int16_t, c_int64_t, c_size_t, tarn_record
+      integer(c_int8_t), intent(in) :: input(*)
+      integer(c_int64_t), intent(inout) :: work(*)
+      type(tarn_record), intent(inout) :: table(*)
+      integer(c_int16_t), intent(inout) :: head(6)
+      integer(c_size_t), value :: input_length, work_length, table_length
+      integer(c_int8_t) :: refused
+    end function
+
+    function c_count(head, table, table_length, work, work_length, rows) result(refused) bind(c, name='tarn_count')
+      import :: c_int8_t, c_int16_t, c_int64_t, c_size_t, tarn_record
+      integer(c_int16_t), intent(in) :: head(6)
+      type(tarn_record), intent(in) :: table(*)
+      integer(c_int64_t), intent(inout) :: work(*), rows
+      integer(c_size_t), value :: table_length, work_length
+      integer(c_int8_t) :: refused
+    end function
+
+    function c_row(head, table, table_length, work, work_length, number, row, row_length) result(refused) &
+        bind(c, name='tarn_row')
+      import :: c_int8_t, c_int16_t, c_int64_t, c_size_t, tarn_record
+      integer(c_int16_t), intent(in) :: head(6)
+      type(tarn_record), intent(in) :: table(*)
+      integer(c_int64_t), intent(inout) :: work(*)
+      integer(c_int64_t), value :: number
+      integer(c_int16_t), intent(inout) :: row(*)
+      integer(c_size_t), value :: table_length, work_length, row_length
+      integer(c_int8_t) :: refused
+    end function
+
+    function c_member(head, table, table_length, work, work_length, row, row_length, listed) result(refused) &
+        bind(c, name='tarn_member')
+      import :: c_int8_t, c_int16_t, c_int64_t, c_size_t, tarn_record
+      integer(c_int16_t), intent(in) :: head(6), row(*)
+      type(tarn_record), intent(in) :: table(*)
+      integer(c_int64_t), intent(inout) :: work(*)
+      integer(c_int8_t), intent(inout) :: listed
+      integer(c_size_t), value :: table_length, work_length, row_length
+      integer(c_int8_t) :: refused
+    end function
+
+    function c_project(head, table, table_length, work, work_length, place, marks, marks_length) result(refused) &
+        bind(c, name='tarn_project')
+      import :: c_int8_t, c_int16_t, c_int64_t, c_size_t, tarn_record
+      integer(c_int16_t), intent(in) :: head(6)
+      type(tarn_record), intent(in) :: table(*)
+      integer(c_int64_t), intent(inout) :: work(*)
+      integer(c_int16_t), value :: place
+      integer(c_int8_t), intent(inout) :: marks(*)
+      integer(c_size_t), value :: table_length, work_length, marks_length
+      integer(c_int8_t) :: refused
+    end function
+
+    function c_fix(head, source, source_length, work, work_length, place, node, target, target_length, fixed) result(refused) &
+        bind(c, name='tarn_fix')
+      import :: c_int8_t, c_int16_t, c_int64_t, c_size_t, tarn_record
+      integer(c_int16_t), intent(in) :: head(6)
+      type(tarn_record), intent(in) :: source(*)
+      integer(c_int64_t), intent(inout) :: work(*)
+      integer(c_int16_t), value :: place, node
+      type(tarn_record), intent(inout) :: target(*)
+      integer(c_int16_t), intent(inout) :: fixed(6)
+      integer(c_size_t), value :: source_length, work_length, target_length
+      integer(c_int8_t) :: refused
+    end function
+  end interface
+
+contains
+
+  ! Builds the set of a stream. Refused 1 to 6.
+  function tarn_build(input, work, table, head) result(refused)
+    integer(c_int8_t), contiguous, intent(in) :: input(:)
+    integer(c_int64_t), contiguous, intent(inout) :: work(:)
+    type(tarn_record), contiguous, intent(inout) :: table(:)
+    integer(c_int16_t), intent(inout) :: head(6)
+    integer :: refused
+    refused = c_build(input, size(input, kind=c_size_t), work, size(work, kind=c_size_t), &
+        table, size(table, kind=c_size_t), head)
+  end function
+
+  ! Counts the rows. Refused 5, 11.
+  function tarn_count(head, table, work, rows) result(refused)
+    integer(c_int16_t), intent(in) :: head(6)
+    type(tarn_record), contiguous, intent(in) :: table(:)
+    integer(c_int64_t), contiguous, intent(inout) :: work(:)
+    integer(c_int64_t), intent(inout) :: rows
+    integer :: refused
+    refused = c_count(head, table, size(table, kind=c_size_t), work, size(work, kind=c_size_t), rows)
+  end function
+
+  ! Writes the row of a number, from 0. Refused 5, 11, 9, 10.
+  function tarn_row(head, table, work, number, row) result(refused)
+    integer(c_int16_t), intent(in) :: head(6)
+    type(tarn_record), contiguous, intent(in) :: table(:)
+    integer(c_int64_t), contiguous, intent(inout) :: work(:)
+    integer(c_int64_t), intent(in) :: number
+    integer(c_int16_t), contiguous, intent(inout) :: row(:)
+    integer :: refused
+    refused = c_row(head, table, size(table, kind=c_size_t), work, size(work, kind=c_size_t), &
+        number, row, size(row, kind=c_size_t))
+  end function
+
+  ! Tells whether a row is listed. Refused 5, 11, 13, 8.
+  function tarn_member(head, table, work, row, listed) result(refused)
+    integer(c_int16_t), intent(in) :: head(6)
+    type(tarn_record), contiguous, intent(in) :: table(:)
+    integer(c_int64_t), contiguous, intent(inout) :: work(:)
+    integer(c_int16_t), contiguous, intent(in) :: row(:)
+    logical, intent(inout) :: listed
+    integer :: refused
+    integer(c_int8_t) :: told
+    told = 0
+    refused = c_member(head, table, size(table, kind=c_size_t), work, size(work, kind=c_size_t), &
+        row, size(row, kind=c_size_t), told)
+    if (refused == 0) listed = told == 1
+  end function
+
+  ! Marks the nodes that stand at a place. Refused 5, 11, 7, 10.
+  function tarn_project(head, table, work, place, marks) result(refused)
+    integer(c_int16_t), intent(in) :: head(6)
+    type(tarn_record), contiguous, intent(in) :: table(:)
+    integer(c_int64_t), contiguous, intent(inout) :: work(:)
+    integer, intent(in) :: place
+    integer(c_int8_t), contiguous, intent(inout) :: marks(:)
+    integer :: refused
+    refused = c_project(head, table, size(table, kind=c_size_t), work, size(work, kind=c_size_t), &
+        sixteen_bits(place), marks, size(marks, kind=c_size_t))
+  end function
+
+  ! Fixes a place at a node, into a second table. Refused 5, 11, 7, 8, 6, 12.
+  function tarn_fix(head, source, work, place, node, target, fixed) result(refused)
+    integer(c_int16_t), intent(in) :: head(6)
+    type(tarn_record), contiguous, intent(in) :: source(:)
+    integer(c_int64_t), contiguous, intent(inout) :: work(:)
+    integer, intent(in) :: place, node
+    type(tarn_record), contiguous, intent(inout) :: target(:)
+    integer(c_int16_t), intent(inout) :: fixed(6)
+    integer :: refused
+    refused = c_fix(head, source, size(source, kind=c_size_t), work, size(work, kind=c_size_t), &
+        sixteen_bits(place), sixteen_bits(node), target, size(target, kind=c_size_t), fixed)
+  end function
+
+  ! A number of 16 bits as it is meant, 0 to 65,535.
+  elemental integer function tarn_number(bits)
+    integer(c_int16_t), intent(in) :: bits
+    tarn_number = iand(int(bits), 65535)
+  end function
+
+  ! The number's 16 bits. One that they do not hold becomes 65,535, which is no place and no node.
+  elemental integer(c_int16_t) function sixteen_bits(number)
+    integer, intent(in) :: number
+    if (number < 0 .or. number > 65535) then
+      sixteen_bits = -1
+    else if (number > 32767) then
+      sixteen_bits = int(number - 65536, c_int16_t)
+    else
+      sixteen_bits = int(number, c_int16_t)
+    end if
+  end function
+end module
