@@ -33,7 +33,7 @@ use Rattle.fix.specs.Face.{Fixes}
 use Rattle.fix.specs.Passes.{Fitting, ImagesDone, ImagesFound, MayImage, MayRecord, Numbered, RecordsDone, RecordsMade, Twice}
 use Rattle.fix.specs.Sets.{Record, Set, at, empty, setAfter, unit}
 use Rattle.fix.specs.States.{State, refusedBy, restarted, started}
-use Rattle.fix.specs.Whole.{Finishes, MayBegin, MayFinish, begun, headAfter}
+use Rattle.fix.specs.Whole.{Finishes, MayFinish, begun, headAfter}
 use Rattle.fix.proofs.ImageSteps.{at-hand, few-records, length-images}
 use Rattle.fix.proofs.OneRecord.{operand-image}
 
@@ -77,7 +77,7 @@ module _ (h : Head) (source : List Record) (work : List ℕ) (place n : ℕ) (ta
   -- the tests up to 6 pass, and 12 is left. The work behind the numbers of the records is as it was
   pub record Fixable (w : List ℕ) : Type 0 where
     pub sound : Sound h source
-    pub place-there : (1 ≤ place) × (place ≤ 4)
+    pub place-there : 1 ≤ place
     pub entries : h .used ≤ length target
     pub room : h .used ≤ length w
     pub rest : drop (h .used) w ≡ drop (h .used) work
@@ -86,10 +86,6 @@ module _ (h : Head) (source : List Record) (work : List ℕ) (place n : ℕ) (ta
   -- ---- the start
   abbrev pub AtStart : State → List ℕ → Type 0
   AtStart s w = Refuses s w ⊎ ((s ≡ first) × Fixable w)
-
-  pub may-begin : (r : Weighed) (w : List ℕ) → Weighs h source work r w → MayBegin r h
-  may-begin WeighedIs.Sound w e = sound-set e refl .few-places
-  may-begin (WeighedIs.Refused why) w e = tt
 
   -- the tests after `weigh`'s
   abbrev later : List Test
@@ -115,14 +111,8 @@ module _ (h : Head) (source : List Record) (work : List ℕ) (place n : ℕ) (ta
       enough : h .used ≤ length w
       enough = omega (arith, sound-room e refl)
 
-      in-range : isOpen h place ≡ true → (1 ≤ place) × (place ≤ 4)
-      in-range o = (leb-true 1 place (first-two .0), omega (arith, leb-true place (h .arity) (second-two .0), good .few-places))
-        where
-          first-two : (leb 1 place ≡ true) × (leb place (h .arity) && hasPlace (h .places) (place - 1) ≡ true)
-          first-two = both-true (leb 1 place) (leb place (h .arity) && hasPlace (h .places) (place - 1)) o
-
-          second-two : (leb place (h .arity) ≡ true) × (hasPlace (h .places) (place - 1) ≡ true)
-          second-two = both-true (leb place (h .arity)) (hasPlace (h .places) (place - 1)) (first-two .1)
+      in-range : isOpen h place ≡ true → 1 ≤ place
+      in-range o = leb-true 1 place (both-true (leb 1 place) (leb place (h .arity) && hasPlace (h .places) (place - 1)) o .0)
 
       refuse : (why : Refusal) → leb (numberOf why) 5 ≡ false → s ≡ refusedBy (h .used) why → reply ≡ refused (numberOf why) → AtStart s w
       refuse why late g r = inl (subst (λ (t : State). Refuses t w) (sym g) (record {
@@ -309,7 +299,7 @@ module _ (h : Head) (source : List Record) (work : List ℕ) (place n : ℕ) (ta
   may-finish s w target′ (inr known) = record {
     room = omega (arith, known .done .used, known .fixable .room);
     fitted = λ _. record {
-      place = subst (λ (p : ℕ). (1 ≤ p) × (p ≤ 4)) (sym (known .done .place)) (known .fixable .place-there);
+      place = omega (arith, known .done .place, known .fixable .place-there);
       made = omega (arith, known .done .made, few, known .fixable .sound .few-used);
       sets = record {
         room = omega (arith, known .done .used, known .fixable .room);

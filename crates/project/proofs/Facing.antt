@@ -36,7 +36,7 @@ use Rattle.project.specs.Marks.{Finishable, Finishes}
 use Rattle.project.specs.Passing.{Driven, InWork, Ready, State, passed, turnsLeft}
 use Rattle.project.specs.Starting.{Begins, RootBelow, Beginnable, refusedState, rootMarked, rootState, started, startedWork}
 use Rattle.project.proofs.Clearing.{cleared}
-use Rattle.project.proofs.Projecting.{inside, last, last-cleared, last-kept, last-marks}
+use Rattle.project.proofs.Projecting.{last, last-cleared, last-kept, last-marks}
 
 module _ (h : Head) (table : List Record) (work : List ℕ) (place : ℕ) (out : List ℕ) where
   -- what the paper says of the question
@@ -59,7 +59,7 @@ module _ (h : Head) (table : List Record) (work : List ℕ) (place : ℕ) (out :
   pub weighed : (r : Weighed) (work₁ : List ℕ) → length work₁ ≡ length work → Weighs h table work r work₁ → Beginnable r h work₁
   weighed WeighedIs.Sound work₁ long w =
       let s = is-weighed w in
-      record { few-places = s .sound .few-places; room = omega (arith, s .room); root = root-below (h .set) (s .sound .set) }
+      record { room = omega (arith, s .room); root = root-below (h .set) (s .sound .set) }
   weighed (WeighedIs.Refused why) work₁ long w = tt
 
   -- ---- once the question is begun
@@ -112,13 +112,12 @@ module _ (h : Head) (table : List Record) (work : List ℕ) (place : ℕ) (out :
       stopped why (refused-reply w refl others (marksOf h table place)) (b .state) (b .worked ∙ refused-work w refl others (marksOf h table place))
 
   -- ---- what the pass is asked for
-  module _ (W : Weighing) (opened : isOpen h place ≡ true) (work₂ : List ℕ) (long : length work₂ ≡ length work) where
-    in-work : (k : ℕ) → k < h .used → InWork k (place - 1) (entry table k) work₂
+  module _ (W : Weighing) (work₂ : List ℕ) (long : length work₂ ≡ length work) where
+    in-work : (k : ℕ) → k < h .used → InWork k (entry table k) work₂
     in-work k below =
         let same : entry (usedOf h table) k ≡ entry table k = getD-take (h .used) table k blankEntry below in
         let (left, right) = operands-below (W .sound .records k below .kind) in
         rw (← same) (record {
-          index-small = omega (arith, inside h table (W .sound) place opened, W .sound .few-places);
           own = omega (arith, W .room);
           left = omega (arith, W .room, left);
           right = omega (arith, W .room, right);
@@ -140,7 +139,7 @@ module _ (h : Head) (table : List Record) (work : List ℕ) (place : ℕ) (out :
 
   ready-begun : (s : State) (work₂ : List ℕ) → length work₂ ≡ length work → Begun s work₂ → Ready table s work₂
   ready-begun s work₂ long (stopped why says state left) = rw state (record { there = omega arith; cells = λ k w. absurd (omega arith) })
-  ready-begun s work₂ long (goes W opened fits says state marked) = rw state (ready-at W opened work₂ long (h .set) (W .sound .set))
+  ready-begun s work₂ long (goes W opened fits says state marked) = rw state (ready-at W work₂ long (h .set) (W .sound .set))
 
   -- ---- once it is driven
   data Ended (e : State) (work₃ : List ℕ) : Type 0 where

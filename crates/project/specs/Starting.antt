@@ -24,7 +24,6 @@ RootBelow (at i) n = i < n
 
 -- what is asked of a set that is sound, and of the work
 pub record Startable (h : Head) (work : List ℕ) : Type 0 where
-  pub few-places : h .arity ≤ 4
   pub room : h .used ≤ length work
   pub root : RootBelow (h .set) (h .used)
 

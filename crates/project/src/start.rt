@@ -1,28 +1,14 @@
 // The beginning of a projection: the refusals, the cleared work, and the root's mark.
 ghost use mathlib.Core.Path.{_≡_};
 ghost use Prim.Native.Nat.{_≤_};
-ghost use Rattle.paper.specs.Refusals.{isOpen};
 ghost use Rattle.project.specs.Starting.{Startable, Beginnable, refusedState, rootState, rootMarked, started, startedWork, Begins};
-use crate::pass::has_place;
 use crate::state::State;
 use paper::Head;
 use paper::Projected;
 use paper::Refusal;
 use paper::Set;
+use places::is_open;
 use sound::Weighed;
-
-fn is_open(head: Head, place: u16) -> bool
-    requires { ⌜ head .arity ≤ 4 ⌝ }
-    ensures { λ r. ⌜ r ≡ isOpen head place ⌝ }
-{
-    if place == 0 {
-        return false;
-    }
-    if head.arity < place {
-        return false;
-    }
-    has_place(head.places, (place - 1) as usize)
-}
 
 fn refused(why: Refusal) -> State
     ensures { λ s. ⌜ s ≡ refusedState why ⌝ }

@@ -33,8 +33,8 @@ use Rattle.sound.proofs.Weighed.Laws as G′
 use Rattle.fix.specs.Face.{Fixes}
 use Rattle.fix.specs.Passes.{MayImage, ImagesDone, MayRecord, RecordsDone}
 use Rattle.fix.specs.States.{State, restarted}
-use Rattle.fix.specs.Whole.{MayBegin, begun, MayFinish, Finishes}
-use Rattle.fix.proofs.Facing.{AtStart, WithImages, WithRecords, may-begin, starts, may-image, finds-images, may-record, makes-records, may-finish, faces}
+use Rattle.fix.specs.Whole.{begun, MayFinish, Finishes}
+use Rattle.fix.proofs.Facing.{AtStart, WithImages, WithRecords, starts, may-image, finds-images, may-record, makes-records, may-finish, faces}
 use Rattle.fix.proofs.state.State as S
 use Rattle.fix.proofs.state.State.Laws as S′
 use Rattle.sound.proofs.weigh as weigh
@@ -191,12 +191,13 @@ module _ {M : Type 1} (𝓤 : URA M) (H : Heap 𝓤) (A : Atoms 𝓤) (W : Given
       tt,
     )
 
-    goes-begin : Good head h → Good short place → Good short n → length target < 2 ^ 64 → (r : Weighed) → Good weighed r → MayBegin r h
+    goes-begin : Good head h → Good short place → Good short n → length target < 2 ^ 64 → (r : Weighed) → Good weighed r
         → ent 𝓤 (emp 𝓤) (Begin .pre (to-begin r))
-    goes-begin head-good place-good node-good small r good ok =
-        qed W [] ∵ says ! ok $ nothing ! $ frame ! $
+    goes-begin head-good place-good node-good small r good =
+        qed W [] ∵
         nothing ! $ owns-number ! (length target) small $ fjoin ! $ owns-value short ! n node-good $ fjoin ! $
-        owns-value short ! place place-good $ fjoin ! $ owns-value head ! h head-good $ fjoin ! $ owns-value weighed ! r good $ fjoin ! $ done !
+        owns-value short ! place place-good $ fjoin ! $ owns-value head ! h head-good $ fjoin ! $ owns-value weighed ! r good $ fjoin ! $
+        nothing ! $ nothing ! $ move ! (0 ∷ 2 ∷ []) $ join ! $ join ! $ done !
 
     abbrev to-images : State → List ℕ → ℕ → GName → Images .Ghost
     to-images s w ν δ = (
@@ -397,7 +398,7 @@ module _ {M : Type 1} (𝓤 : URA M) (H : Heap 𝓤) (A : Atoms 𝓤) (W : Given
         begins r w good long e =
             sets ! 22 refl (of-opd ! (part ! 18 refl refl refl)) (number-typed (target-room .0)) $
             use0 W (raw (Begin .pre (to-begin r)))
-            (goes-begin head-good place-good node-good (target-room .0) r good (may-begin h source work place n target r w e)) $
+            (goes-begin head-good place-good node-good (target-room .0) r good) $
             calls ! (fmOf 𝓤 H (W .laws) 𝓣) begin.ended (begin.clauses 𝓤 H A mem run) known-begin (to-begin r) (state .low) (state .tells)
             (and-then ! (value ! 21 refl) (and-then ! (value ! 9 refl) (and-then ! (value ! 15 refl) (and-then ! (value ! 17 refl)
             (and-then ! (value ! 23 refl) (no-more !))))))

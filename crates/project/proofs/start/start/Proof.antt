@@ -62,7 +62,7 @@ at-root-requires c κs =
     let opened : isOpen (a .head) (a .place) ≡ true = sym (tested .is-open .ensures) ∙ not-false _ (c .before .before .before .if1 .left) in
     let long = ap length (clears (tested .before .before .before)) ∙ cleared-length (a .work .now) (a .head .used) (start .pre .room) in (
       open-from-one (a .head) (a .place) opened,
-      record { few-places = start .pre .few-places; room = omega (arith, start .pre .room, long); root = start .pre .root },
+      record { room = omega (arith, start .pre .room, long); root = start .pre .root },
     )
 
 same-length-3 : tie.Need-same-length-3
