@@ -24,12 +24,9 @@ use Rattle.paper.specs.declared.Head.{Head}
 use Rattle.paper.specs.declared.Record.{Record}
 use Rattle.paper.proofs.Fixed as F
 use Rattle.paper.proofs.Fixed.Laws as F′
-use Rattle.paper.proofs.Head as D
-use Rattle.paper.proofs.Head.Laws as D′
 use Rattle.sound.specs.declared.Weighed.{Weighed}
 use Rattle.sound.specs.Face.{Weighs}
-use Rattle.sound.proofs.Weighed as G
-use Rattle.sound.proofs.Weighed.Laws as G′
+use Rattle.sound.proofs.Heads.{head, weighed}
 use Rattle.fix.specs.Face.{Fixes}
 use Rattle.fix.specs.Passes.{MayImage, ImagesDone, MayRecord, RecordsDone}
 use Rattle.fix.specs.States.{State, restarted}
@@ -67,15 +64,9 @@ use Rattle.fix.proofs.fix.Statement as stated
 use Rattle.fix.proofs.fix.Code as code
 use Rattle.fix.proofs.fix.Code.Mir as body
 
--- what is passed by value
-abbrev head : Value
-head = struct D.the-type D′.the-laws D′.the-plain D′.the-copy
-
+-- what else is passed by value
 abbrev short : Value
 short = number w16
-
-abbrev weighed : Value
-weighed = enum G.the-type G′.the-laws G′.the-plain G′.the-copy tt
 
 abbrev state : Value
 state = struct S.the-type S′.the-laws S′.the-plain S′.the-copy
