@@ -65,8 +65,8 @@ call-first : (c : Call) (cs : List Call) (n : ℕ) (h : Head) (table : List Reco
 call-first c cs n h table G few ok made after = (
   (made .0, made .1, others .0),
   ap₂ (λ (r : Fixed) (t : List Record). following r refused (λ head. lastSet cs head t)) (gives .0) (gives .1)
-  ∙ others .1
-  ∙ ap (λ (r : Reply (Head × List Record)). next r (c .target) (callFixes (lentIn cs))) (sym accepted),
+      ∙ others .1
+      ∙ ap (λ (r : Reply (Head × List Record)). next r (c .target) (callFixes (lentIn cs))) (sym accepted),
 )
   where
     place : ℕ

@@ -1,14 +1,14 @@
 -- What is known at each step of a fix, up to what it answers. A step is refused already (`Refuses`), and then nothing more is done, or the tests up to
 -- 6 have passed (`Fixable`). First these two, then the steps in order: the start, the images, the records, the answer.
-use mathlib.Core.Bool.{Bool, _&&_, cond, false, false≢true, not, true, true≢false}
-use mathlib.Core.List.{List, [], _∷_, _++_}
+use mathlib.Core.Bool.{Bool, cond, false, false≢true, not, true, true≢false}
+use mathlib.Core.List.{List, [], _∷_}
 use mathlib.Core.Logic.{_⊎_, inl, inr, ⊎-elim}
 use mathlib.Core.Path.{_∙_, _≡_, ap, refl, subst, sym}
 use Prim.Native.Nat.{_-_, _<_, _≤_, ℕ}
 use native.Mathlib.Omega.{arith}
 use borrow.Author.Tests.{leb-true}
 use lib.Dec.{leb, ltb}
-use lib.ListN.{drop, getD, length, length-replicate, replicate}
+use lib.ListN.{drop, getD, length, replicate}
 use lib.Seq.{getD-take, length-take-le}
 use Rattle.paper.specs.declared.Fixed.{Fixed}
 use Rattle.paper.specs.declared.Fixed.the-variants as FixedIs
@@ -16,30 +16,26 @@ use Rattle.paper.specs.declared.Head.{Head}
 use Rattle.paper.specs.declared.Refusal.{Refusal}
 use Rattle.paper.specs.declared.Refusal.the-variants.{Node, Place, ShortTable}
 use Rattle.paper.specs.Answers.{numberOf, saysFixed, told}
-use Rattle.paper.specs.Questions.{fixedSet, hasPlace, imageOf, imagesOf, questionWork, unitTwice, without}
+use Rattle.paper.specs.Questions.{fixedSet, imageOf, imagesOf, questionWork, unitTwice, without}
 use Rattle.paper.specs.Records.{blankEntry, usedOf}
 use Rattle.paper.specs.Refusals.{Reply, Test, answer, fix, isOpen, over, refused, targetAfter, unless, workAfter}
 use Rattle.paper.specs.Sound.{entry}
 use Rattle.laws.specs.QuestionRows.{IsProduct, IsSingle, IsUnion, Sound, UnitTwice}
-use Rattle.laws.proofs.Lists.{both-true}
+use Rattle.laws.proofs.OpenPlaces.{open-from-one}
 use Rattle.laws.proofs.QuestionRefusals.{unit-twice-row}
 use Rattle.laws.proofs.Tests.{passes-if-not}
 use Rattle.sound.specs.declared.Weighed.{Weighed}
 use Rattle.sound.specs.declared.Weighed.the-variants as WeighedIs
 use Rattle.sound.specs.Face.{Weighs}
-use Rattle.sound.proofs.Answered.{refused-reply, refused-work, sound-reply, sound-room, sound-set, sound-work}
-use Rattle.sound.proofs.Cells.{behind-cells}
+use Rattle.sound.proofs.Answered.{refused-reply, refused-work, sound-behind, sound-reply, sound-room, sound-set}
+use Rattle.sound.proofs.Overwriting.{cleared-same}
 use Rattle.fix.specs.Face.{Fixes}
 use Rattle.fix.specs.Passes.{Fitting, ImagesDone, ImagesFound, MayImage, MayRecord, Numbered, RecordsDone, RecordsMade, Twice}
 use Rattle.fix.specs.Sets.{Record, Set, at, empty, setAfter, unit}
 use Rattle.fix.specs.States.{State, refusedBy, restarted, started}
-use Rattle.fix.specs.Whole.{Finishes, MayBegin, MayFinish, begun, headAfter}
+use Rattle.fix.specs.Whole.{Finishes, MayFinish, begun, headAfter}
 use Rattle.fix.proofs.ImageSteps.{at-hand, few-records, length-images}
 use Rattle.fix.proofs.OneRecord.{operand-image}
-
--- the first numbers cleared, where the rest is the same
-cleared : (k : ℕ) (xs ys : List ℕ) → drop k xs ≡ drop k ys → over (replicate k 0) xs ≡ over (replicate k 0) ys
-cleared k xs ys e = rw length-replicate (ap (λ (l : List ℕ). replicate k 0 ++ l) e)
 
 restarted-refused : (t : State) → t .refused ≡ true → restarted t ≡ t
 restarted-refused t e = rw e
@@ -77,7 +73,7 @@ module _ (h : Head) (source : List Record) (work : List ℕ) (place n : ℕ) (ta
   -- the tests up to 6 pass, and 12 is left. The work behind the numbers of the records is as it was
   pub record Fixable (w : List ℕ) : Type 0 where
     pub sound : Sound h source
-    pub place-there : (1 ≤ place) × (place ≤ 4)
+    pub place-there : 1 ≤ place
     pub entries : h .used ≤ length target
     pub room : h .used ≤ length w
     pub rest : drop (h .used) w ≡ drop (h .used) work
@@ -86,10 +82,6 @@ module _ (h : Head) (source : List Record) (work : List ℕ) (place n : ℕ) (ta
   -- ---- the start
   abbrev pub AtStart : State → List ℕ → Type 0
   AtStart s w = Refuses s w ⊎ ((s ≡ first) × Fixable w)
-
-  pub may-begin : (r : Weighed) (w : List ℕ) → Weighs h source work r w → MayBegin r h
-  may-begin WeighedIs.Sound w e = sound-set e refl .few-places
-  may-begin (WeighedIs.Refused why) w e = tt
 
   -- the tests after `weigh`'s
   abbrev later : List Test
@@ -110,19 +102,10 @@ module _ (h : Head) (source : List Record) (work : List ℕ) (place n : ℕ) (ta
       good = sound-set e refl
 
       same : drop (h .used) w ≡ drop (h .used) work
-      same = ap (drop (h .used)) (sound-work e refl) ∙ behind-cells h source good work
+      same = sound-behind e refl
 
       enough : h .used ≤ length w
       enough = omega (arith, sound-room e refl)
-
-      in-range : isOpen h place ≡ true → (1 ≤ place) × (place ≤ 4)
-      in-range o = (leb-true 1 place (first-two .0), omega (arith, leb-true place (h .arity) (second-two .0), good .few-places))
-        where
-          first-two : (leb 1 place ≡ true) × (leb place (h .arity) && hasPlace (h .places) (place - 1) ≡ true)
-          first-two = both-true (leb 1 place) (leb place (h .arity) && hasPlace (h .places) (place - 1)) o
-
-          second-two : (leb place (h .arity) ≡ true) × (hasPlace (h .places) (place - 1) ≡ true)
-          second-two = both-true (leb place (h .arity)) (hasPlace (h .places) (place - 1)) (first-two .1)
 
       refuse : (why : Refusal) → leb (numberOf why) 5 ≡ false → s ≡ refusedBy (h .used) why → reply ≡ refused (numberOf why) → AtStart s w
       refuse why late g r = inl (subst (λ (t : State). Refuses t w) (sym g) (record {
@@ -130,7 +113,7 @@ module _ (h : Head) (source : List Record) (work : List ℕ) (place n : ℕ) (ta
         idle = refl;
         room = enough;
         number = r;
-        left = rw (r, late) (cleared (h .used) w work same);
+        left = rw (r, late) (cleared-same (h .used) work w same);
       }))
 
       open-or-not : (c : Bool) → isOpen h place ≡ c
@@ -148,7 +131,7 @@ module _ (h : Head) (source : List Record) (work : List ℕ) (place n : ℕ) (ta
             g,
             record {
               sound = good;
-              place-there = in-range o;
+              place-there = open-from-one h place o;
               entries = leb-true (h .used) (length target) l;
               room = enough;
               rest = same;
@@ -240,7 +223,7 @@ module _ (h : Head) (source : List Record) (work : List ℕ) (place n : ℕ) (ta
         idle = found .stopped;
         room = omega (arith, found .used, known .room);
         number = twelve ∙ ap (λ (why : Refusal). refused (numberOf why)) (sym (found .refusal));
-        left = rw (found .used, twelve) (cleared (h .used) w′ work same);
+        left = rw (found .used, twelve) (cleared-same (h .used) work w′ same);
       }))
         where
           twelve : reply ≡ refused 12
@@ -309,7 +292,7 @@ module _ (h : Head) (source : List Record) (work : List ℕ) (place n : ℕ) (ta
   may-finish s w target′ (inr known) = record {
     room = omega (arith, known .done .used, known .fixable .room);
     fitted = λ _. record {
-      place = subst (λ (p : ℕ). (1 ≤ p) × (p ≤ 4)) (sym (known .done .place)) (known .fixable .place-there);
+      place = omega (arith, known .done .place, known .fixable .place-there);
       made = omega (arith, known .done .made, few, known .fixable .sound .few-used);
       sets = record {
         room = omega (arith, known .done .used, known .fixable .room);
@@ -348,7 +331,7 @@ module _ (h : Head) (source : List Record) (work : List ℕ) (place n : ℕ) (ta
   faces s w target′ r w′ (inr known) e = record {
     answer = ap saysFixed (e .answer ∙ ap (λ (c : Bool). cond c (FixedIs.Refused (s .refusal)) (FixedIs.Set (headAfter s h w))) (known .done .refused))
         ∙ ap answer heads ∙ ap (told (λ a. a .0)) (sym answers);
-    worked = e .cleared ∙ rw (known .done .used, answers) (cleared (h .used) w work (known .fixable .rest));
+    worked = e .cleared ∙ rw (known .done .used, answers) (cleared-same (h .used) work w (known .fixable .rest));
     written = known .done .written ∙ ap (λ x. targetAfter x target) (sym answers);
   }
     where

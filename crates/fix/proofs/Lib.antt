@@ -1,4 +1,3 @@
-pub mod Flags
 pub mod Making
 pub mod Turning
 pub mod Beginning

@@ -22,7 +22,7 @@ pub record Fitting (source : List Record) (t : State) (work : List ℕ) : Type 0
   pub there : t .used ≤ length source
   pub room : t .used ≤ length work
   pub few : t .used ≤ 60000
-  pub place : (1 ≤ t .place) × (t .place ≤ 4)
+  pub place : 1 ≤ t .place
   pub lower : (k : ℕ) → k < t .used → entry source k .kind ≡ 2 → (entry source k .left < k) × (entry source k .right < k)
 
 -- record k is a union, and both its operands become unit

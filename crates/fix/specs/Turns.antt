@@ -16,7 +16,7 @@ pub record Turning (t : State) (work : List ℕ) : Type 0 where
   pub few : t .used ≤ 60000
   pub room : t .used ≤ length work
   pub made : t .made ≤ t .at
-  pub place : (1 ≤ t .place) × (t .place ≤ 4)
+  pub place : 1 ≤ t .place
   pub sets : (i : ℕ) → i < t .at → getD work i 0 ≤ t .made + 1
 
 -- the sets that the operands have become

@@ -16,11 +16,6 @@ use Rattle.sound.specs.declared.Weighed.the-variants as WeighedIs
 use Rattle.fix.specs.Sets.{setAfter}
 use Rattle.fix.specs.States.{State, started, refusedBy}
 
--- a sound set has at most four places
-abbrev pub MayBegin : Weighed → Head → Type 0
-MayBegin WeighedIs.Sound h = h .arity ≤ 4
-MayBegin (WeighedIs.Refused why) h = Unit {0}
-
 -- refused by `weigh`, or with 7, 8 or 6, or before the first record
 abbrev pub begun : Weighed → Head → ℕ → ℕ → ℕ → State
 begun WeighedIs.Sound h place node entries =
@@ -39,7 +34,7 @@ pub record SetsIn (work : List ℕ) (used : ℕ) : Type 0 where
 
 -- of an answer: the numbers of the head fit, and so do those of the sets
 pub record Fitted (t : State) (work : List ℕ) : Type 0 where
-  pub place : (1 ≤ t .place) × (t .place ≤ 4)
+  pub place : 1 ≤ t .place
   pub made : t .made ≤ 60000
   pub sets : SetsIn work (t .used)
 

@@ -4,10 +4,10 @@ ghost use mathlib.Core.Path.{_≡_};
 ghost use Prim.Native.Nat.{_+_, _-_, _≤_};
 ghost use Rattle.paper.specs.Building.{singleRecord, productRecord, unionRecord};
 ghost use Rattle.fix.specs.Sets.{setIn, standing, newest, imageWith, Makes};
-use crate::flag::has_place;
-use crate::flag::without_place;
 use paper::Flag;
 use paper::Record;
+use places::has_place;
+use places::without_place;
 
 // The set that a record becomes, and the record that is new if one is: `count` is 0 or 1.
 pub(crate) struct Image {
@@ -116,14 +116,15 @@ pub(crate) fn image_of(
     right: u64,
     made: usize,
 ) -> Image
-    requires { ⌜ (1 ≤ place) × (place ≤ 4) ⌝ }
+    requires { ⌜ 1 ≤ place ⌝ }
     requires { ⌜ made ≤ 60000 ⌝ }
     requires { ⌜ (left ≤ made + 1) × (right ≤ made + 1) ⌝ }
     ensures { λ x. ⌜ Makes (imageWith (place - 1) node r (setIn left) (setIn right)) made x ⌝ }
 {
-    let flag = without_place(r.flag, place);
+    let index = (place - 1) as usize;
+    let flag = without_place(r.flag, index);
     if r.kind == 1 {
-        if has_place(r.flag, place) && r.node != node {
+        if has_place(r.flag, index) && r.node != node {
             return no_record(0);
         }
         return single(r.node, flag, made);

@@ -11,7 +11,6 @@ use paper::Fixed;
 use paper::Head;
 use paper::Record;
 
-mod flag;
 mod image;
 mod state;
 mod turn;

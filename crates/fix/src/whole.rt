@@ -1,18 +1,17 @@
 // The beginning of a fix, of its second pass, and its end.
 ghost use mathlib.Core.Path.{_≡_};
 ghost use Prim.Native.Nat.{_≤_};
-ghost use Rattle.paper.specs.Refusals.{isOpen};
 ghost use Rattle.fix.specs.Sets.{setIn, setAfter};
 ghost use Rattle.fix.specs.States.{started, refusedBy, restarted};
-ghost use Rattle.fix.specs.Whole.{MayBegin, begun, SetsIn, MayFinish, answerAfter, Finishes};
-use crate::flag::has_place;
-use crate::flag::without_place;
+ghost use Rattle.fix.specs.Whole.{begun, SetsIn, MayFinish, answerAfter, Finishes};
 use crate::state::State;
 use crate::turn::operand;
 use paper::Fixed;
 use paper::Head;
 use paper::Refusal;
 use paper::Set;
+use places::is_open;
+use places::without_place;
 use sound::Weighed;
 
 // Before the first record. Only a union of unit and unit can still refuse.
@@ -51,24 +50,9 @@ fn refuse(used: usize, why: Refusal) -> State
     }
 }
 
-// The place is one from 1 to the arity, and open.
-fn is_open(head: Head, place: u16) -> bool
-    requires { ⌜ head .arity ≤ 4 ⌝ }
-    ensures { λ r. ⌜ r ≡ isOpen head place ⌝ }
-{
-    if place < 1 {
-        return false;
-    }
-    if head.arity < place {
-        return false;
-    }
-    has_place(head.places, place)
-}
-
 // What can be told before the images: 5 and 11 by what `weigh` said, then 7, 8 and 6. A set that `weigh` refused has left the work as it
 // is to be.
 pub(crate) fn begin(w: Weighed, head: Head, place: u16, node: u16, entries: usize) -> State
-    requires { ⌜ MayBegin w head ⌝ }
     ensures { λ r. ⌜ r ≡ begun w head place node entries ⌝ }
 {
     match w {
@@ -136,7 +120,7 @@ fn answer(t: State, head: Head, work: &[u64]) -> Fixed
     }
     let old = head.set;
     let set = new_set(old, work, t.used);
-    let places = without_place(head.places, t.place);
+    let places = without_place(head.places, (t.place - 1) as usize);
     Fixed::Set(Head {
         nodes: head.nodes,
         arity: head.arity,

@@ -1,13 +1,10 @@
 -- Lists of tests against rows in an order, where one row may have several tests and each test counts only if those before it hold.
 -- First the test that fails first, then that a list of tests judges as the rows do.
 use mathlib.Core.Path.{_≡_, refl, sym, ap, _∙_}
-use mathlib.Core.Logic.{_⊎_, inl, inr, ⊎-elim}
-use mathlib.Core.Bool.{Bool, true, false, _&&_, false≢true}
+use mathlib.Core.Logic.{_⊎_, inl, inr}
+use mathlib.Core.Bool.{Bool, true, false}
 use mathlib.Core.List.{List, [], _∷_, _++_}
-use Prim.Native.Nat.{ℕ, _≤_, _<_}
-use native.Mathlib.Omega.{arith}
-use borrow.Author.Tests.{leb-true, leb-false, ltb-true, ltb-false}
-use lib.Dec.{leb, ltb}
+use Prim.Native.Nat.{ℕ}
 use Rattle.paper.specs.Refusals.{refused, Test, unless}
 use Rattle.laws.specs.First.{FirstOf, NoneOf}
 use Rattle.laws.proofs.Replies.{Passes}

@@ -216,12 +216,6 @@ pub through-map : {A B C : Type 0} (f : C → B → C) (c : C) (xs : List A) (g 
 through-map f c [] g = refl
 through-map f c (x ∷ xs) g = through-map f (f c (g x)) xs g
 
--- over a list that is there only if a test holds
-pub through-cond : {A B : Type 0} (f : B → A → B) (b : B) (t : Bool) (xs : List A)
-    → through f b (cond t xs []) ≡ cond t (through f b xs) b
-through-cond f b true xs = refl
-through-cond f b false xs = refl
-
 countFrom-suc : (n k : ℕ) → countFrom k (suc n) ≡ countFrom k n ++ ((k + n) ∷ [])
 countFrom-suc zero k = let z : k + 0 ≡ k = omega arith in rw z
 countFrom-suc (suc n) k = let z : k + suc n ≡ suc k + n = omega arith in rw (z, countFrom-suc n (suc k))

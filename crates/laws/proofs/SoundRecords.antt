@@ -45,6 +45,7 @@ module _ (before : List Record) (r : Record) where
 
 module _ (arity nodes : ℕ) where
   module _ (before : List Record) (r : Record) where
+    -- the test of one record is the statement for the number after those before it
     says-soundRecord : Says (soundRecord arity nodes before r) (SoundAt arity nodes before (length before) r)
     says-soundRecord =
         Iff·trans
@@ -53,13 +54,6 @@ module _ (arity nodes : ℕ) where
           λ (node, (above, (below, (kind, u)))). record { node = node; flag-above = above; flag-below = below; kind = kind },
           λ s. (s .node, (s .flag-above, (s .flag-below, (s .kind, tt)))),
         )
-
-    -- the test of one record is the statement for the number after those before it
-    pub soundRecord-true : soundRecord arity nodes before r ≡ true → SoundAt arity nodes before (length before) r
-    soundRecord-true = says-soundRecord .0
-
-    pub true-soundRecord : SoundAt arity nodes before (length before) r → soundRecord arity nodes before r ≡ true
-    true-soundRecord = says-soundRecord .1
 
   -- ---- the records in order
   says-soundRecords : (before rest : List Record) → Says (soundRecords arity nodes before rest) (SoundFrom arity nodes before rest)

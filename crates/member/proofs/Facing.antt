@@ -1,7 +1,7 @@
 -- From the four calls of `member` to its contract: what `begin` and `drive` ask is met, and what `finish` leaves is what the paper says.
 -- First the work, then what `begin` and `drive` ask, then the answer of a sound set, then the whole.
 use mathlib.Core.Bool.{Bool, cond, false, false≢true, or-false, true}
-use mathlib.Core.List.{List, [], _++_, _∷_}
+use mathlib.Core.List.{List, [], _∷_}
 use mathlib.Core.Path.{_∙_, _≡_, ap, refl, subst, sym}
 use Prim.Native.Nat.{ℕ}
 use native.Mathlib.Omega.{arith}
@@ -27,8 +27,8 @@ use Rattle.paper.specs.Sound.{sound}
 use Rattle.laws.specs.QuestionRows.{SetFits, Sound}
 use Rattle.laws.proofs.Lists.{same-refl}
 use Rattle.sound.specs.Face.{Weighs}
-use Rattle.sound.proofs.Answered.{refused-reply, refused-work, sound-reply, sound-room, sound-set, sound-work}
-use Rattle.sound.proofs.Cells.{behind-cells}
+use Rattle.sound.proofs.Answered.{refused-reply, refused-work, sound-behind, sound-reply, sound-room, sound-set}
+use Rattle.sound.proofs.Overwriting.{cleared-same}
 use Rattle.sound.specs.declared.Weighed.{Weighed}
 use Rattle.sound.specs.declared.Weighed.the-variants as WeighedIs
 use Rattle.member.specs.Driving.{Driven, Ready, Starts}
@@ -43,12 +43,6 @@ drop-cleared : (n : ℕ) (work : List ℕ) → drop n (cleared n work) ≡ drop 
 drop-cleared n work =
     let long : length {A = ℕ} (replicate n 0) ≡ n = length-replicate n 0 in
     drop-at (replicate n 0) (drop (length {A = ℕ} (replicate n 0)) work) n long ∙ ap (λ (m : ℕ). drop m work) long
-
--- works that are the same there are the same once they are cleared
-cleared-same : (n : ℕ) (work work′ : List ℕ) → drop n work′ ≡ drop n work → cleared n work′ ≡ cleared n work
-cleared-same n work work′ rest =
-    let long : length {A = ℕ} (replicate n 0) ≡ n = length-replicate n 0 in
-    ap {B = List ℕ} (λ zs. replicate n 0 ++ zs) (ap (λ (m : ℕ). drop m work′) long ∙ rest ∙ ap (λ (m : ℕ). drop m work) (sym long))
 
 module _ (h : Head) (table : List Record) (work : List ℕ) (row : Row) where
   -- the tests of the row, behind those of every question
@@ -154,7 +148,7 @@ module _ (h : Head) (table : List Record) (work : List ℕ) (row : Row) where
         record {
           answer = ap saysMember (f .answer) ∙ told .0 ∙ sym (sound-reply w refl rowTests listed);
           worked =
-              clears l (told .1 ∙ ap (drop (h .used)) (sound-work w refl) ∙ behind-cells h table (sound-set w refl) work) ∙ sym (long-work l);
+              clears l (told .1 ∙ sound-behind w refl) ∙ sym (long-work l);
         }
 
     face-refused : (why : Refusal) → Weighs h table work (WeighedIs.Refused why) work₁ → Driven table (stopped (Refused why)) work₁ e work₂

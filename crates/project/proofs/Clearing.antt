@@ -1,7 +1,7 @@
--- A list whose first numbers are 0: its length and its numbers, and that `sound::clear` leaves one.
+-- A list whose first numbers are 0: its length and its numbers.
 use mathlib.Core.List.{List}
-use mathlib.Core.Path.{_∙_, _≡_, ap}
-use Prim.Native.Nat.{_<_, _≤_, min, ℕ}
+use mathlib.Core.Path.{_∙_, _≡_}
+use Prim.Native.Nat.{_<_, _≤_, ℕ}
 use native.Mathlib.Omega.{arith}
 use lib.ListN.{getD, getD-replicate, length, length-replicate, replicate}
 use Rattle.paper.specs.Refusals.{over}
@@ -23,7 +23,3 @@ module _ (l : List ℕ) (i : ℕ) where
 
   pub cleared-behind : (k : ℕ) → i ≤ k → getD cleared k 0 ≡ getD l k 0
   cleared-behind k h = over-behind (replicate i 0) l k (omega (arith, long))
-
--- what `sound::clear` leaves of a work that is long enough
-pub cleared-all : (l : List ℕ) (i : ℕ) → i ≤ length l → cleared l (min i (length l)) ≡ cleared l i
-cleared-all l i h = ap (cleared l) (let e : min i (length l) ≡ i = omega arith in e)

@@ -8,7 +8,7 @@ use Prim.Native.Nat.{_-_, _<_, _≤_, ℕ}
 use native.Mathlib.Omega.{arith}
 use borrow.Author.Tests.{leb-true}
 use lib.Dec.{leb}
-use lib.ListN.{length, length-replicate, replicate}
+use lib.ListN.{length}
 use lib.Seq.{getD-take}
 use Rattle.paper.specs.declared.Head.{Head}
 use Rattle.paper.specs.declared.Projected.{Projected}
@@ -27,16 +27,13 @@ use Rattle.laws.specs.QuestionRows.{IsProduct, IsSingle, IsUnion, SetFits, Soun
 use Rattle.sound.specs.declared.Weighed.{Weighed}
 use Rattle.sound.specs.declared.Weighed.the-variants as WeighedIs
 use Rattle.sound.specs.Face.{Weighs}
-use Rattle.sound.specs.Weights.{weights}
-use Rattle.sound.proofs.Answered.{refused-reply, refused-work, sound-reply, sound-room, sound-set, sound-work}
-use Rattle.sound.proofs.Cells.{behind-cell, weighed-length}
-use Rattle.sound.proofs.Overwriting.{over-agree}
+use Rattle.sound.proofs.Answered.{refused-reply, refused-work, sound-clears, sound-reply, sound-room, sound-set}
 use Rattle.project.specs.Face.{Projects}
 use Rattle.project.specs.Marks.{Finishable, Finishes}
 use Rattle.project.specs.Passing.{Driven, InWork, Ready, State, passed, turnsLeft}
-use Rattle.project.specs.Starting.{Begins, RootBelow, Beginnable, refusedState, rootMarked, rootState, started, startedWork}
+use Rattle.project.specs.Starting.{Begins, refusedState, rootMarked, rootState, started, startedWork}
 use Rattle.project.proofs.Clearing.{cleared}
-use Rattle.project.proofs.Projecting.{inside, last, last-cleared, last-kept, last-marks}
+use Rattle.project.proofs.Projecting.{last, last-cleared, last-kept, last-marks}
 
 module _ (h : Head) (table : List Record) (work : List ℕ) (place : ℕ) (out : List ℕ) where
   -- what the paper says of the question
@@ -50,17 +47,6 @@ module _ (h : Head) (table : List Record) (work : List ℕ) (place : ℕ) (out :
 
   is-weighed : {work₁ : List ℕ} → Weighs h table work WeighedIs.Sound work₁ → Weighing
   is-weighed w = record { sound = sound-set w refl; room = sound-room w refl }
-
-  root-below : (set : Set) → SetFits h (usedOf h table) set → RootBelow set (h .used)
-  root-below empty fits = tt
-  root-below unit fits = tt
-  root-below (at i) fits = fits .0
-
-  pub weighed : (r : Weighed) (work₁ : List ℕ) → length work₁ ≡ length work → Weighs h table work r work₁ → Beginnable r h work₁
-  weighed WeighedIs.Sound work₁ long w =
-      let s = is-weighed w in
-      record { few-places = s .sound .few-places; room = omega (arith, s .room); root = root-below (h .set) (s .sound .set) }
-  weighed (WeighedIs.Refused why) work₁ long w = tt
 
   -- ---- once the question is begun
   data Begun (s : State) (work₂ : List ℕ) : Type 0 where
@@ -77,15 +63,6 @@ module _ (h : Head) (table : List Record) (work : List ℕ) (place : ℕ) (out :
   others = (7, isOpen h place) ∷ (10, leb (h .nodes) (length out)) ∷ []
 
   module _ (work₁ : List ℕ) (w : Weighs h table work WeighedIs.Sound work₁) where
-    -- the weights are cleared with the rest
-    weights-cleared : cleared work₁ (h .used) ≡ cleared work (h .used)
-    weights-cleared =
-        let long : length {A = ℕ} (replicate (h .used) 0) ≡ h .used = length-replicate (h .used) 0 in
-        let W = is-weighed w in
-        ap (λ (l : List ℕ). cleared l (h .used)) (sound-work w refl)
-        ∙ over-agree (replicate (h .used) 0) work (over (weights h table) work) (omega (arith, W .room))
-        (weighed-length h table (W .sound) work (W .room)) (λ k l. behind-cell h table (W .sound) work k (omega arith))
-
     begins-sound : (s : State) (work₂ : List ℕ) → s ≡ started h place (length out) → work₂ ≡ startedWork h place (length out) work₁ → Begun s work₂
     begins-sound s work₂ es ew = go (isOpen h place) refl (leb (h .nodes) (length out)) refl
       where
@@ -95,15 +72,15 @@ module _ (h : Head) (table : List Record) (work : List ℕ) (place : ℕ) (out :
         go : (c : Bool) → isOpen h place ≡ c → (d : Bool) → leb (h .nodes) (length out) ≡ d → Begun s work₂
         go false e d f =
             let says : asked ≡ refused 7 = left-over ∙ rw e refl in
-            let left : work₂ ≡ cleared work (h .used) = ew ∙ rw e weights-cleared in
+            let left : work₂ ≡ cleared work (h .used) = ew ∙ rw e (sound-clears w refl) in
             stopped Place says (es ∙ rw e refl) (left ∙ sym (leaves says))
         go true e false f =
             let says : asked ≡ refused 10 = left-over ∙ rw (e, f) refl in
-            let left : work₂ ≡ cleared work (h .used) = ew ∙ rw (e, f) weights-cleared in
+            let left : work₂ ≡ cleared work (h .used) = ew ∙ rw (e, f) (sound-clears w refl) in
             stopped ShortOutput says (es ∙ rw (e, f) refl) (left ∙ sym (leaves says))
         go true e true f =
             goes (is-weighed w) e (leb-true (h .nodes) (length out) f) (left-over ∙ rw (e, f) refl) (es ∙ rw (e, f) refl)
-            (ew ∙ rw (e, f, weights-cleared) refl)
+            (ew ∙ rw (e, f, sound-clears w refl) refl)
 
   begins : (r : Weighed) (work₁ : List ℕ) (s : State) (work₂ : List ℕ) → Weighs h table work r work₁
       → Begins r h work₁ place (length out) s work₂ → Begun s work₂
@@ -112,13 +89,12 @@ module _ (h : Head) (table : List Record) (work : List ℕ) (place : ℕ) (out :
       stopped why (refused-reply w refl others (marksOf h table place)) (b .state) (b .worked ∙ refused-work w refl others (marksOf h table place))
 
   -- ---- what the pass is asked for
-  module _ (W : Weighing) (opened : isOpen h place ≡ true) (work₂ : List ℕ) (long : length work₂ ≡ length work) where
-    in-work : (k : ℕ) → k < h .used → InWork k (place - 1) (entry table k) work₂
+  module _ (W : Weighing) (work₂ : List ℕ) (long : length work₂ ≡ length work) where
+    in-work : (k : ℕ) → k < h .used → InWork k (entry table k) work₂
     in-work k below =
         let same : entry (usedOf h table) k ≡ entry table k = getD-take (h .used) table k blankEntry below in
         let (left, right) = operands-below (W .sound .records k below .kind) in
         rw (← same) (record {
-          index-small = omega (arith, inside h table (W .sound) place opened, W .sound .few-places);
           own = omega (arith, W .room);
           left = omega (arith, W .room, left);
           right = omega (arith, W .room, right);
@@ -140,7 +116,7 @@ module _ (h : Head) (table : List Record) (work : List ℕ) (place : ℕ) (out :
 
   ready-begun : (s : State) (work₂ : List ℕ) → length work₂ ≡ length work → Begun s work₂ → Ready table s work₂
   ready-begun s work₂ long (stopped why says state left) = rw state (record { there = omega arith; cells = λ k w. absurd (omega arith) })
-  ready-begun s work₂ long (goes W opened fits says state marked) = rw state (ready-at W opened work₂ long (h .set) (W .sound .set))
+  ready-begun s work₂ long (goes W opened fits says state marked) = rw state (ready-at W work₂ long (h .set) (W .sound .set))
 
   -- ---- once it is driven
   data Ended (e : State) (work₃ : List ℕ) : Type 0 where

@@ -1,4 +1,3 @@
-pub mod Shifts
 pub mod Clearing
 pub mod Marking
 pub mod StateShape

@@ -8,7 +8,7 @@ use Prim.Native.Nat.{_+_, _-_, _<_, _≤_, suc, zero, ℕ}
 use native.Mathlib.Omega.{arith}
 use borrow.Author.Tests.{eq-eqb, eqb-false, eqb-true, leb-true}
 use lib.Dec.{eqb, leb}
-use lib.ListN.{getD, length, length-replicate, length-set, replicate, set, take}
+use lib.ListN.{getD, length, length-set, set, take}
 use lib.Seq.{getD-set-other, getD-set-same, getD-take, length-take-le}
 use Rattle.paper.specs.declared.Head.{Head}
 use Rattle.paper.specs.declared.Record.{Record}
@@ -26,7 +26,7 @@ use Rattle.project.specs.Passing.{passed, turnsLeft}
 use Rattle.project.specs.Starting.{rootMarked, rootState}
 use Rattle.project.proofs.Clearing.{cleared, cleared-behind, cleared-length, cleared-zero}
 use Rattle.project.proofs.Operands.{rows}
-use Rattle.sound.proofs.Overwriting.{over-agree}
+use Rattle.sound.proofs.Overwriting.{zeros-agree}
 use Rattle.project.proofs.Passing.{Cells, Down, Found, above, below, passes}
 use Rattle.project.proofs.Standing.{StandsIn}
 
@@ -147,9 +147,8 @@ module _ (h : Head) (table : List Record) (S : Sound h table) (place : ℕ) (ope
     -- behind the cells the work is as it was
     pub last-cleared : cleared last (h .used) ≡ cleared work (h .used)
     last-cleared =
-        let long : length {A = ℕ} (replicate (h .used) 0) ≡ h .used = length-replicate (h .used) 0 in
-        over-agree (replicate (h .used) 0) work last (omega arith) (down .long ∙ first-long (h .set))
-        (λ k w. down .rest k (omega arith) ∙ first-behind (h .set) (S .set) k (omega arith))
+        zeros-agree work (h .used) last room (down .long ∙ first-long (h .set))
+        (λ k w. down .rest k w ∙ first-behind (h .set) (S .set) k w)
 
     -- a node is kept exactly if it stands at the place in some row
     kept-stands : (n : ℕ) → n < h .nodes → has (take (h .used) last) (suc n) ≡ standsAt i n (listing h table)

@@ -35,8 +35,7 @@ passed index table (suc k) cells = passed index table k (cellsAfter index k (ent
 
 -- ---- turns
 -- a record's own cell and those of its operands are in the work
-pub record InWork (at index : ℕ) (r : Record) (work : List ℕ) : Type 0 where
-  pub index-small : index < 16
+pub record InWork (at : ℕ) (r : Record) (work : List ℕ) : Type 0 where
   pub own : at < length work
   pub left : r .left < length work
   pub right : r .right < length work
@@ -63,7 +62,7 @@ turnsLeft t = cond (t .going) (suc (t .at)) 0
 -- each of them is in the table, and its cells are in the work
 pub record Ready (table : List Record) (s : State) (work : List ℕ) : Type 0 where
   pub there : turnsLeft s ≤ length table
-  pub cells : (k : ℕ) → k < turnsLeft s → InWork k (s .index) (entry table k) work
+  pub cells : (k : ℕ) → k < turnsLeft s → InWork k (entry table k) work
 
 pub record Driven (table : List Record) (s : State) (work : List ℕ) (r : State) (work′ : List ℕ) : Type 0 where
   pub used : r .used ≡ s .used

@@ -2,7 +2,7 @@
 use mathlib.Core.Bool.{Bool, true, false, cond}
 use mathlib.Core.List.{List}
 use mathlib.Core.Path.{_≡_}
-use Prim.Native.Nat.{ℕ, _-_, _≤_, _<_}
+use Prim.Native.Nat.{ℕ, _-_, min}
 use lib.Dec.{leb}
 use lib.ListN.{length, replicate, set}
 use Rattle.paper.specs.declared.Head.{Head}
@@ -17,17 +17,6 @@ use Rattle.sound.specs.declared.Weighed.the-variants as WeighedIs
 use Rattle.project.specs.Passing.{State}
 
 -- ---- a sound set
-abbrev pub RootBelow : Set → ℕ → Type 0
-RootBelow empty n = Unit {0}
-RootBelow unit n = Unit {0}
-RootBelow (at i) n = i < n
-
--- what is asked of a set that is sound, and of the work
-pub record Startable (h : Head) (work : List ℕ) : Type 0 where
-  pub few-places : h .arity ≤ 4
-  pub room : h .used ≤ length work
-  pub root : RootBelow (h .set) (h .used)
-
 -- no turn is taken
 abbrev pub refusedState : Refusal → State
 refusedState why = record { at = 0; index = 0; used = 0; nodes = 0; answer = Refused why; going = false }
@@ -63,17 +52,15 @@ abbrev pub started : Head → ℕ → ℕ → State
 started h place room =
     cond (isOpen h place) (cond (leb (h .nodes) room) (rootState h place (h .set)) (refusedState ShortOutput)) (refusedState Place)
 
+-- the weights are cleared in any case
+abbrev pub unweighed : Head → List ℕ → List ℕ
+unweighed h work = over (replicate (min (h .used) (length work)) 0) work
+
 abbrev pub startedWork : Head → ℕ → ℕ → List ℕ → List ℕ
 startedWork h place room work =
-    cond (isOpen h place)
-    (cond (leb (h .nodes) room) (rootMarked (h .set) (over (replicate (h .used) 0) work)) (over (replicate (h .used) 0) work))
-    (over (replicate (h .used) 0) work)
+    cond (isOpen h place) (cond (leb (h .nodes) room) (rootMarked (h .set) (unweighed h work)) (unweighed h work)) (unweighed h work)
 
 -- ---- after `weigh`
-abbrev pub Beginnable : Weighed → Head → List ℕ → Type 0
-Beginnable WeighedIs.Sound h work = Startable h work
-Beginnable (WeighedIs.Refused why) h work = Unit {0}
-
 abbrev pub begun : Weighed → Head → ℕ → ℕ → State
 begun WeighedIs.Sound h place room = started h place room
 begun (WeighedIs.Refused why) h place room = refusedState why

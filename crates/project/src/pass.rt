@@ -1,23 +1,13 @@
 // One turn of the pass. The work has a cell for each used record: 1 for a record under the root that is still to be looked at, and
 // then, for a single with the place, its node and 1 more; else 0.
 ghost use mathlib.Core.Path.{_≡_};
-ghost use Prim.Native.Nat.{_<_};
-ghost use Rattle.paper.specs.Questions.{hasPlace};
 ghost use Rattle.project.specs.Passing.{InWork, Passes, cellsAfter, kept};
 use crate::state::State;
 use paper::Record;
-
-// Whether the flag has the place with this index.
-pub(crate) fn has_place(flag: u16, index: usize) -> bool
-    requires { ⌜ index < 16 ⌝ }
-    ensures { λ r. ⌜ r ≡ hasPlace flag index ⌝ }
-{
-    (flag >> index) % 2 == 1
-}
+use places::has_place;
 
 // What a single under the root keeps in its cell.
 fn keep(r: Record, index: usize) -> u64
-    requires { ⌜ index < 16 ⌝ }
     ensures { λ c. ⌜ c ≡ kept index r ⌝ }
 {
     if has_place(r.flag, index) {
@@ -28,7 +18,7 @@ fn keep(r: Record, index: usize) -> u64
 
 // A union or a product under the root hands its mark on to its operands.
 fn look(at: usize, index: usize, r: Record, work: &mut [u64])
-    requires { ⌜ InWork at index r (now work) ⌝ }
+    requires { ⌜ InWork at r (now work) ⌝ }
     ensures { λ _. ⌜ now (work .exit) ≡ cellsAfter index at r (now (work .entry)) ⌝ }
 {
     let mark = work[at];
@@ -47,7 +37,7 @@ fn look(at: usize, index: usize, r: Record, work: &mut [u64])
 }
 
 pub(crate) fn next(t: State, r: Record, work: &mut [u64]) -> State
-    requires { ⌜ InWork (t .at) (t .index) r (now work) ⌝ }
+    requires { ⌜ InWork (t .at) r (now work) ⌝ }
     ensures { λ s. ⌜ Passes t r (now (work .entry)) s (now (work .exit)) ⌝ }
 {
     look(t.at, t.index, r, &mut *work);

@@ -1,28 +1,14 @@
 // The beginning of a projection: the refusals, the cleared work, and the root's mark.
 ghost use mathlib.Core.Path.{_≡_};
 ghost use Prim.Native.Nat.{_≤_};
-ghost use Rattle.paper.specs.Refusals.{isOpen};
-ghost use Rattle.project.specs.Starting.{Startable, Beginnable, refusedState, rootState, rootMarked, started, startedWork, Begins};
-use crate::pass::has_place;
+ghost use Rattle.project.specs.Starting.{refusedState, rootState, rootMarked, started, startedWork, Begins};
 use crate::state::State;
 use paper::Head;
 use paper::Projected;
 use paper::Refusal;
 use paper::Set;
+use places::is_open;
 use sound::Weighed;
-
-fn is_open(head: Head, place: u16) -> bool
-    requires { ⌜ head .arity ≤ 4 ⌝ }
-    ensures { λ r. ⌜ r ≡ isOpen head place ⌝ }
-{
-    if place == 0 {
-        return false;
-    }
-    if head.arity < place {
-        return false;
-    }
-    has_place(head.places, (place - 1) as usize)
-}
 
 fn refused(why: Refusal) -> State
     ensures { λ s. ⌜ s ≡ refusedState why ⌝ }
@@ -39,7 +25,7 @@ fn refused(why: Refusal) -> State
 
 // The pass at the root, if the set has one: its record is marked.
 fn at_root(head: Head, work: &mut [u64], place: u16) -> State
-    requires { ⌜ (1 ≤ place) × Startable head (now work) ⌝ }
+    requires { ⌜ 1 ≤ place ⌝ }
     ensures { λ s. ⌜ (s ≡ rootState head place (head .set)) × (now (work .exit) ≡ rootMarked (head .set) (now (work .entry))) ⌝ }
 {
     let mut s = State {
@@ -54,10 +40,13 @@ fn at_root(head: Head, work: &mut [u64], place: u16) -> State
     match set {
         Set::Empty => s,
         Set::Unit => s,
-        Set::Record(root) => {
-            s.at = root as usize;
+        Set::Record(number) => {
+            let root = number as usize;
+            if root < work.len() {
+                work[root] = 1;
+            }
+            s.at = root;
             s.going = true;
-            work[root as usize] = 1;
             s
         }
     }
@@ -65,7 +54,6 @@ fn at_root(head: Head, work: &mut [u64], place: u16) -> State
 
 // Refusals 7 and 10, or the pass over a sound set.
 fn start(head: Head, work: &mut [u64], place: u16, room: usize) -> State
-    requires { ⌜ Startable head (now work) ⌝ }
     ensures { λ s. ⌜ (s ≡ started head place room) × (now (work .exit) ≡ startedWork head place room (now (work .entry))) ⌝ }
 {
     sound::clear(&mut *work, head.used as usize);
@@ -79,7 +67,6 @@ fn start(head: Head, work: &mut [u64], place: u16, room: usize) -> State
 }
 
 pub(crate) fn begin(w: Weighed, head: Head, work: &mut [u64], place: u16, room: usize) -> State
-    requires { ⌜ Beginnable w head (now work) ⌝ }
     ensures { λ s. ⌜ Begins w head (now (work .entry)) place room s (now (work .exit)) ⌝ }
 {
     match w {

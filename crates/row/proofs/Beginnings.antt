@@ -5,18 +5,19 @@ use Prim.Native.Nat.{_<_, _≤_, ℕ}
 use borrow.Author.Tests.{le-leb, le-ltb, lt-leb, lt-ltb}
 use Rattle.paper.specs.declared.Head.{Head}
 use Rattle.paper.specs.declared.Refusal.the-variants.{RowNumber, ShortOutput}
-use Rattle.row.specs.Whole.{countIn, refusedWith, rootIn, seeking, started}
+use Rattle.sound.specs.Counting.{rowsInSet}
+use Rattle.row.specs.Whole.{refusedWith, rootIn, seeking, started}
 
 module _ (h : Head) (work : List ℕ) (number room : ℕ) where
-  pub number-refused : countIn (h .set) work ≤ number → started h work number room ≡ refusedWith RowNumber (h .used)
+  pub number-refused : rowsInSet work (h .set) ≤ number → started h work number room ≡ refusedWith RowNumber (h .used)
   unfolding started
-  number-refused over = rw (le-leb (countIn (h .set) work) number over)
+  number-refused over = rw (le-leb (rowsInSet work (h .set)) number over)
 
-  module _ (numbered : number < countIn (h .set) work) where
+  module _ (numbered : number < rowsInSet work (h .set)) where
     pub room-refused : room < h .arity → started h work number room ≡ refusedWith ShortOutput (h .used)
     unfolding started
-    room-refused short = rw (lt-leb (countIn (h .set) work) number numbered, lt-ltb room (h .arity) short)
+    room-refused short = rw (lt-leb (rowsInSet work (h .set)) number numbered, lt-ltb room (h .arity) short)
 
     pub seeks : h .arity ≤ room → started h work number room ≡ seeking h (rootIn (h .set)) number
     unfolding started
-    seeks enough = rw (lt-leb (countIn (h .set) work) number numbered, le-ltb room (h .arity) enough)
+    seeks enough = rw (lt-leb (rowsInSet work (h .set)) number numbered, le-ltb room (h .arity) enough)

@@ -7,44 +7,29 @@ use Prim.Native.Nat.{_<_, _≤_, min, ℕ}
 use native.Mathlib.Omega.{arith}
 use borrow.Author.Tests.{le-leb, le-ltb, lt-leb, lt-ltb, ltb-false, ltb-true}
 use lib.Dec.{leb, ltb}
-use lib.ListN.{length, length-replicate, replicate, take}
+use lib.ListN.{length, replicate, take}
 use Rattle.paper.specs.declared.Head.{Head}
 use Rattle.paper.specs.declared.Record.{Record}
 use Rattle.paper.specs.declared.Refusal.{Refusal}
 use Rattle.paper.specs.declared.Refusal.the-variants.{RowNumber, ShortOutput}
-use Rattle.paper.specs.declared.Set.{Set}
-use Rattle.paper.specs.declared.Set.the-variants as SetIs
 use Rattle.paper.specs.declared.Written.{Written}
 use Rattle.paper.specs.Answers.{numberOf, saysWritten, told}
 use Rattle.paper.specs.Questions.{countOf, questionWork, rowNumbered}
-use Rattle.paper.specs.Records.{usedOf}
 use Rattle.paper.specs.Refusals.{Reply, Test, answer, outputAfter, over, refused, rowByNumber, unless, workAfter}
 use Rattle.paper.specs.Row.{Row}
-use Rattle.laws.specs.QuestionRows.{SetFits, Sound}
+use Rattle.laws.specs.QuestionRows.{Sound}
+use Rattle.sound.specs.Counting.{rowsInSet}
 use Rattle.sound.specs.declared.Weighed.{Weighed}
 use Rattle.sound.specs.declared.Weighed.the-variants as WeighedIs
 use Rattle.sound.specs.Face.{Weighs}
 use Rattle.sound.specs.Weights.{weights}
-use Rattle.sound.proofs.Answered.{refused-reply, refused-work, sound-reply, sound-room, sound-set, sound-work}
-use Rattle.sound.proofs.Cells.{behind-cell, weighed-length}
-use Rattle.sound.proofs.Overwriting.{over-agree}
+use Rattle.sound.proofs.Answered.{refused-reply, refused-work, sound-clears, sound-reply, sound-room, sound-set, sound-work}
 use Rattle.row.specs.Descent.{Asked, State}
 use Rattle.row.specs.Descending.{Descended, Ready}
 use Rattle.row.specs.Face.{Numbers}
-use Rattle.row.specs.Whole.{Begins, Finishes, InWork, Weighty, Writable, countIn, refusedWith, rootIn, seeking, started}
+use Rattle.row.specs.Whole.{Begins, Finishes, Writable, refusedWith, rootIn, seeking, started}
 use Rattle.row.proofs.Beginnings.{number-refused, room-refused, seeks}
 use Rattle.row.proofs.Searching.{counts, search-finds, search-ready}
-
--- ---- `begin`: the root's weight stands in the work
-module _ (h : Head) (table : List Record) (work w₁ : List ℕ) (long : length w₁ ≡ length work) where
-  root-in-work : h .used ≤ length work → (x : Set) → SetFits h (usedOf h table) x → InWork x w₁
-  root-in-work room SetIs.Empty fits = tt
-  root-in-work room SetIs.Unit fits = tt
-  root-in-work room (SetIs.Record i) fits = omega (arith, fits .0)
-
-  pub weighty : (r : Weighed) → Weighs h table work r w₁ → Weighty r h w₁
-  weighty WeighedIs.Sound W = root-in-work (sound-room W refl) (h .set) (sound-set W refl .set)
-  weighty (WeighedIs.Refused why) W = tt
 
 -- ---- a sound set: 9, 10, or the search
 data Course (h : Head) (table : List Record) (number room : ℕ) (s : State) : Type 0 where
@@ -59,7 +44,7 @@ module _ (h : Head) (table : List Record) (work : List ℕ) (S : Sound h table) 
   course : Course h table number room (started h weighed number room)
   course = go (ltb number (countOf h table)) refl (ltb room (h .arity)) refl
     where
-      count : countIn (h .set) weighed ≡ countOf h table
+      count : rowsInSet weighed (h .set) ≡ countOf h table
       count = counts h table work S space
 
       go : (c : Bool) → ltb number (countOf h table) ≡ c → (d : Bool) → ltb room (h .arity) ≡ d → Course h table number room (started h weighed number room)
@@ -98,15 +83,6 @@ module _ (h : Head) (table : List Record) (work : List ℕ) (S : Sound h table) 
         go (nine late is) = record { few = omega (arith, arity-is _ is); room = omega (arith, arity-is _ is) }
         go (ten early short is) = record { few = omega (arith, arity-is _ is); room = omega (arith, arity-is _ is) }
         go (searches early enough is) = record { few = omega (arith, arity-is _ is, S .few-places); room = omega (arith, arity-is _ is, long) }
-
-  -- the weights are cleared
-  cleared : over (replicate (min (h .used) (length weighed)) 0) weighed ≡ over (replicate (h .used) 0) work
-  cleared =
-      let long : length weighed ≡ length work = weighed-length h table S work space in
-      let all : min (h .used) (length weighed) ≡ h .used = omega arith in
-      let zeros : length {A = ℕ} (replicate (h .used) 0) ≡ h .used = length-replicate (h .used) 0 in
-      ap (λ (n : ℕ). over (replicate n 0) weighed) all
-      ∙ over-agree (replicate (h .used) 0) work weighed (omega arith) long (λ k behind. behind-cell h table S work k (omega arith))
 
 -- ---- the contract, at the reply that the tests give
 module _ (h : Head) (table : List Record) (work : List ℕ) (number : ℕ) (out : List ℕ) where
@@ -151,13 +127,12 @@ module _ (h : Head) (table : List Record) (work : List ℕ) (number : ℕ) (out 
 
     -- weighed
     module _ (S : Sound h table) (space : h .used ≤ length work) (replies : reply ≡ unless more (rowNumbered h table number))
-        (weighed-now : w₃ ≡ over (weights h table) work) where
+        (zeroed : over (replicate (min (h .used) (length w₃)) 0) w₃ ≡ over (replicate (h .used) 0) work) where
       used-cleared : (s : State) → e .asked ≡ s .asked → s .asked .used ≡ h .used → work′ ≡ over (replicate (h .used) 0) work
       used-cleared s same used =
           left-work s same
           ∙ ap (λ (n : ℕ). over (replicate (min n (length w₃)) 0) w₃) used
-          ∙ ap (λ (w : List ℕ). over (replicate (min (h .used) (length w)) 0) w) weighed-now
-          ∙ cleared h table work S space number (length out)
+          ∙ zeroed
 
       answers-along : {s : State} {w w′ : List ℕ} → Course h table number (length out) s → Descended table s w e w′
           → Numbers h table work number out a work′ out′
@@ -209,6 +184,6 @@ module _ (h : Head) (table : List Record) (work : List ℕ) (number : ℕ) (out 
         → {a : Written} {w₄ out′ : List ℕ} → Finishes e w₃ out a w₄ out′ → Numbers h table work number out a w₄ out′
     row-numbers WeighedIs.Sound W g f =
         answers-along h table work number out f (sound-set W refl) (sound-room W refl) (sound-reply W refl (more h table work number out) _)
-        (d .kept ∙ now-weighed W g) (goes W g) d
+        (ap (λ (w : List ℕ). over (replicate (min (h .used) (length w)) 0) w) (d .kept ∙ g .kept) ∙ sound-clears W refl) (goes W g) d
     row-numbers (WeighedIs.Refused why) W g f =
         refused-before h table work number out f (rw (d .kept ∙ g .kept) W) (d .asked ∙ ap (λ (x : State). x .asked) (g .state))

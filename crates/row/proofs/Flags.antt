@@ -1,23 +1,14 @@
--- The places of a flag: a place found by a shift, then the first place from an index on.
+-- The first place of a flag from an index on: as a loop finds it, and what it is.
 use mathlib.Core.Bool.{Bool, cond, false, true}
 use mathlib.Core.Path.{_∙_, _≡_, ap, refl, sym}
-use Prim.Native.Nat.{_%_, _+_, _-_, _/_, _<_, _^_, _≤_, suc, zero, ℕ}
+use Prim.Native.Nat.{_+_, _-_, _<_, _≤_, suc, zero, ℕ}
 use native.Mathlib.Numerals.{add-one}
 use native.Mathlib.Omega.{arith}
 use borrow.Author.Tests.{eqb-false, eqb-true}
 use lib.Dec.{eqb}
-use lib.Pow.{shr-shr}
 use Rattle.paper.specs.Questions.{hasPlace}
 use Rattle.row.specs.Descent.{openFrom, openOf}
 
--- ---- one place
-pub shifted : (b i : ℕ) → eqb (b / 2 ^ i % 2) 1 ≡ hasPlace b i
-shifted b zero = ap (λ (z : ℕ). eqb (z % 2) 1) (let z : b / 2 ^ 0 ≡ b = omega arith in z)
-shifted b (suc i) =
-    let step : 1 + i ≡ suc i = omega arith in
-    ap (λ (z : ℕ). eqb (z % 2) 1) (ap (λ (z : ℕ). b / 2 ^ z) (sym step) ∙ sym (shr-shr b 1 i)) ∙ shifted (b / 2) i
-
--- ---- the first place from an index on
 module _ (b : ℕ) where
   open-step : (i : ℕ) → i < 4 → openFrom b i ≡ cond (hasPlace b i) i (openFrom b (i + 1))
   open-step i below =

@@ -17,11 +17,12 @@ use Rattle.paper.specs.Records.{listings, setRows, usedOf}
 use Rattle.paper.specs.Refusals.{over}
 use Rattle.paper.specs.Row.{Row, blank}
 use Rattle.laws.specs.QuestionRows.{SetFits, Sound}
+use Rattle.sound.specs.Counting.{rowsInSet}
 use Rattle.sound.specs.Weights.{weights}
 use Rattle.sound.proofs.Cells.{cell, cell-rows, weighed-length}
 use Rattle.row.specs.Descent.{State, openFrom}
 use Rattle.row.specs.Descending.{Answerable, Descended, Filled, Ready}
-use Rattle.row.specs.Whole.{blanks, countIn, rootIn, seeking}
+use Rattle.row.specs.Whole.{blanks, rootIn, seeking}
 use Rattle.row.proofs.Descents.{all-found, at-root, sought-blank}
 use Rattle.row.proofs.Flags.{first-open}
 
@@ -100,7 +101,7 @@ module _ (h : Head) (table : List Record) (work : List ℕ) (S : Sound h table) 
   unit-stops : SetFits h (usedOf h table) SetIs.Unit → ltb (openFrom (h .places) 0) 4 ≡ false
   unit-stops fits = ap (λ (b : ℕ). ltb (openFrom b 0) 4) fits
 
-  count-is : (x : Set) → SetFits h (usedOf h table) x → countIn x weighed ≡ length (setRows (h .arity) lists x)
+  count-is : (x : Set) → SetFits h (usedOf h table) x → rowsInSet weighed x ≡ length (setRows (h .arity) lists x)
   count-is SetIs.Empty fits = refl
   count-is SetIs.Unit fits = refl
   count-is (SetIs.Record i) fits = cell-rows h table S work i (fits .0)
@@ -122,7 +123,7 @@ module _ (h : Head) (table : List Record) (work : List ℕ) (S : Sound h table) 
       ∙ ap (λ (n : ℕ). getD (setRows (h .arity) lists SetIs.Unit) n []) (sym first)
   found-at (SetIs.Record i) number fits numbered d = root-found i number fits numbered d
 
-  pub counts : countIn (h .set) weighed ≡ countOf h table
+  pub counts : rowsInSet weighed (h .set) ≡ countOf h table
   counts = count-is (h .set) (S .set)
 
   module _ (number : ℕ) (numbered : number < countOf h table) where

@@ -1,9 +1,9 @@
--- The beginning and the end of the search for a row. First what the work tells of the set, then the first state, by what `weigh` has answered and the
+-- The beginning and the end of the search for a row. First the set's root, then the first state, by what `weigh` has answered and the
 -- tests 9 and 10, then what is left at the end.
 use mathlib.Core.Bool.{cond}
 use mathlib.Core.List.{List, [], _∷_}
 use mathlib.Core.Path.{_≡_}
-use Prim.Native.Nat.{ℕ, _≤_, _<_, min}
+use Prim.Native.Nat.{ℕ, _≤_, min}
 use lib.Dec.{leb, ltb}
 use lib.ListN.{length, replicate, take}
 use Rattle.paper.specs.declared.Head.{Head}
@@ -15,27 +15,17 @@ use Rattle.paper.specs.declared.Written.{Written}
 use Rattle.paper.specs.declared.Written.the-variants as WrittenIs
 use Rattle.paper.specs.Refusals.{over}
 use Rattle.paper.specs.Row.{Row, blank, noPlace}
+use Rattle.sound.specs.Counting.{rowsInSet}
 use Rattle.sound.specs.declared.Weighed.{Weighed}
 use Rattle.sound.specs.declared.Weighed.the-variants as WeighedIs
-use Rattle.row.specs.Descent.{Asked, State, openFrom, rowsAt}
+use Rattle.row.specs.Descent.{Asked, State, openFrom}
 
 -- ---- the set
--- how many rows it lists, by the weights in the work
-abbrev pub countIn : Set → List ℕ → ℕ
-countIn SetIs.Empty work = 0
-countIn SetIs.Unit work = 1
-countIn (SetIs.Record i) work = rowsAt work i
-
+-- its record, where the descents begin
 abbrev pub rootIn : Set → ℕ
 rootIn SetIs.Empty = 0
 rootIn SetIs.Unit = 0
 rootIn (SetIs.Record i) = i
-
--- its record has a number in the work
-abbrev pub InWork : Set → List ℕ → Type 0
-InWork SetIs.Empty work = Unit {0}
-InWork SetIs.Unit work = Unit {0}
-InWork (SetIs.Record i) work = i < length work
 
 -- ---- the beginning
 abbrev pub blanks : Row
@@ -57,17 +47,12 @@ seeking h root number =
 -- 9, then 10
 unfoldable pub started : Head → List ℕ → ℕ → ℕ → State
 started h work number room =
-    cond (leb (countIn (h .set) work) number) (refusedWith RowNumber (h .used))
+    cond (leb (rowsInSet work (h .set)) number) (refusedWith RowNumber (h .used))
     (cond (ltb room (h .arity)) (refusedWith ShortOutput (h .used)) (seeking h (rootIn (h .set)) number))
 
 abbrev pub begun : Weighed → Head → List ℕ → ℕ → ℕ → State
 begun WeighedIs.Sound h work number room = started h work number room
 begun (WeighedIs.Refused why) h work number room = refusedWith why 0
-
--- what `begin` asks for: the root's weight stands in the work
-abbrev pub Weighty : Weighed → Head → List ℕ → Type 0
-Weighty WeighedIs.Sound h work = InWork (h .set) work
-Weighty (WeighedIs.Refused why) h work = Unit {0}
 
 pub record Begins (w : Weighed) (h : Head) (work : List ℕ) (number room : ℕ) (s : State) (work′ : List ℕ) : Type 0 where
   pub state : s ≡ begun w h work number room

@@ -2,10 +2,10 @@
 ghost use mathlib.Core.Path.{_≡_};
 ghost use Prim.Native.Nat.{_<_};
 ghost use Rattle.row.specs.Descent.{Readable, Steps, rowsAt, lower, placed, unionSide, productSide};
-use crate::flag::has_place;
 use crate::flag::open_from;
 use crate::state::State;
 use paper::Record;
+use places::has_place;
 
 // The descent goes on at row `number` of record `at`.
 fn go_down(t: State, at: usize, number: u64) -> State

@@ -1,16 +1,8 @@
-// The places of a flag. Place 1 has index 0 and the lowest bit.
+// The places of a flag, from the lowest on. Place 1 has index 0.
 ghost use mathlib.Core.Path.{_≡_};
-ghost use Prim.Native.Nat.{_≤_, _<_};
-ghost use Rattle.paper.specs.Questions.{hasPlace};
+ghost use Prim.Native.Nat.{_≤_};
 ghost use Rattle.row.specs.Descent.{openFrom};
-
-// Whether the flag has the place with this index.
-pub(crate) fn has_place(flag: u16, index: usize) -> bool
-    requires { ⌜ index < 16 ⌝ }
-    ensures { λ r. ⌜ r ≡ hasPlace flag index ⌝ }
-{
-    (flag >> index) % 2 == 1
-}
+use places::has_place;
 
 // The first place of the flag from an index on; 4 if there is none.
 pub(crate) fn open_from(flag: u16, index: usize) -> usize

@@ -3,7 +3,7 @@ ghost use mathlib.Core.Path.{_≡_};
 ghost use Prim.Native.Nat.{_≤_, _<_};
 ghost use lib.ListN.{length, take};
 ghost use Rattle.paper.specs.Refusals.{over};
-ghost use Rattle.row.specs.Whole.{InWork, Weighty, countIn, rootIn, atRoot, refusedWith, started, Begins, Writable, Finishes};
+ghost use Rattle.row.specs.Whole.{rootIn, atRoot, refusedWith, started, Begins, Writable, Finishes};
 use crate::flag::open_from;
 use crate::state::Asked;
 use crate::state::State;
@@ -15,18 +15,7 @@ use paper::Set;
 use paper::Written;
 use sound::Weighed;
 use sound::clear;
-
-// How many rows a set lists, by the weights of its records.
-fn count_in(set: Set, work: &[u64]) -> u64
-    requires { ⌜ InWork set (now work) ⌝ }
-    ensures { λ n. ⌜ n ≡ countIn set (now (work .entry)) ⌝ }
-{
-    match set {
-        Set::Empty => 0,
-        Set::Unit => 1,
-        Set::Record(i) => work[i as usize] / 16,
-    }
-}
+use sound::set_rows;
 
 // The record where the descents begin. Empty and unit have none, and no descent.
 fn root_in(set: Set) -> usize
@@ -70,13 +59,12 @@ fn refused(why: Refusal, used: usize) -> State
 
 // Of a sound set: the first descent, for the first open place.
 fn start(head: Head, work: &[u64], number: u64, room: usize) -> State
-    requires { ⌜ InWork (head .set) (now work) ⌝ }
     ensures { λ s. ⌜ s ≡ started head (now (work .entry)) number room ⌝ }
 {
     let set = head.set;
     let used = head.used as usize;
     let arity = head.arity as usize;
-    if count_in(set, work) <= number {
+    if set_rows(set, work) <= number {
         return refused(Refusal::RowNumber, used);
     }
     if room < arity {
@@ -95,7 +83,6 @@ fn start(head: Head, work: &[u64], number: u64, room: usize) -> State
 
 // Where the set has been refused, the work stays as it is.
 pub(crate) fn begin(w: Weighed, head: Head, work: &mut [u64], number: u64, room: usize) -> State
-    requires { ⌜ Weighty w head (now work) ⌝ }
     ensures { λ s. ⌜ Begins w head (now (work .entry)) number room s (now (work .exit)) ⌝ }
 {
     match w {

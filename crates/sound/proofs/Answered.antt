@@ -3,9 +3,10 @@
 use mathlib.Core.Bool.{Bool, cond, false, true}
 use mathlib.Core.List.{List, [], _++_, _∷_}
 use mathlib.Core.Path.{_∙_, _≡_, ap, sym}
-use Prim.Native.Nat.{_≤_, ℕ}
+use Prim.Native.Nat.{_≤_, min, ℕ}
+use native.Mathlib.Omega.{arith}
 use borrow.Author.Tests.{leb-true}
-use lib.ListN.{length}
+use lib.ListN.{drop, length, replicate}
 use Rattle.paper.specs.declared.Head.{Head}
 use Rattle.paper.specs.declared.Record.{Record}
 use Rattle.paper.specs.declared.Refusal.{Refusal}
@@ -18,6 +19,8 @@ use Rattle.laws.proofs.SoundTest.{sound-is}
 use Rattle.sound.specs.Face.{Weighs}
 use Rattle.sound.specs.Weights.{Weighed, saysWeighed, weighedWork, weighing, weights}
 use Rattle.sound.specs.declared.Weighed.the-variants.{Refused, Sound}
+use Rattle.sound.proofs.Cells.{behind-cells, weighed-length}
+use Rattle.sound.proofs.Overwriting.{cleared-all, cleared-same}
 
 -- a refusal stays, whatever is tested behind it and whatever would be answered
 refused-too : {A B : Type 0} (ts more : List Test) (a : A) (b : B) {n : ℕ} → unless ts a ≡ refused n → unless (ts ++ more) b ≡ refused n
@@ -49,6 +52,21 @@ module _ {h : Head} {table : List Record} {work work′ : List ℕ} {r : Weighed
 
     pub sound-work : work′ ≡ over (weights h table) work
     sound-work = W .worked ∙ ap (λ (reply : Reply (Unit {0})). weighedWork reply h table work) passed
+
+    -- behind the weights it is as it was
+    pub sound-behind : drop (h .used) work′ ≡ drop (h .used) work
+    sound-behind = ap (drop (h .used)) sound-work ∙ behind-cells h table sound-set work
+
+    -- and they are cleared with the rest
+    pub sound-cleared : over (replicate (h .used) 0) work′ ≡ over (replicate (h .used) 0) work
+    sound-cleared = cleared-same (h .used) work work′ sound-behind
+
+    pub sound-length : length work′ ≡ length work
+    sound-length = ap length sound-work ∙ weighed-length h table sound-set work sound-room
+
+    -- what `clear` leaves
+    pub sound-clears : over (replicate (min (h .used) (length work′)) 0) work′ ≡ over (replicate (h .used) 0) work
+    sound-clears = cleared-all (h .used) work′ (omega (arith, sound-room, sound-length)) ∙ sound-cleared
 
     pub sound-reply : {A : Type 0} (more : List Test) (a : A) → unless (tests ++ more) a ≡ unless more a
     sound-reply more a = unless-append tests more a sound-passes

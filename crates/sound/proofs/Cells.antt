@@ -14,11 +14,11 @@ use Rattle.paper.specs.Row.{Row}
 use Rattle.paper.specs.Sound.{entry}
 use Rattle.laws.specs.QuestionRows.{Sound}
 use Rattle.laws.proofs.Listings.{length-listings}
-use Rattle.sound.specs.Steps.{flagIn, rowsIn}
+use Rattle.sound.specs.Steps.{rowsIn}
 use Rattle.sound.specs.Weights.{weight, weights, weightsFor}
-use Rattle.sound.proofs.Overwriting.{over-behind, over-length, over-within}
+use Rattle.sound.proofs.Overwriting.{over-length, over-within}
 use Rattle.sound.proofs.RowCounts.{some-rows}
-use Rattle.sound.proofs.WeightParts.{below-sixteen, flag-in, rows-in}
+use Rattle.sound.proofs.WeightParts.{below-sixteen, rows-in}
 
 -- ---- the list of weights
 weightsFor-length : (lists : List (List Row)) (records : List Record) → length lists ≡ length records
@@ -62,9 +62,6 @@ module _ (h : Head) (table : List Record) (S : Sound h table) where
   flagOf k = entry (usedOf h table) k .flag
 
   module _ (k : ℕ) (l : k < h .used) where
-    pub flag-some : 1 ≤ flagOf k
-    flag-some = S .records k l .flag-above
-
     pub flag-low : flagOf k < 16
     flag-low = below-sixteen (S .few-places) (S .records k l .flag-below)
 
@@ -83,9 +80,6 @@ module _ (h : Head) (table : List Record) (S : Sound h table) where
         drop-at (weights h table) (drop (length (weights h table)) work) (h .used) (weights-length h table (S .used-there))
         ∙ ap (λ (n : ℕ). drop n work) (weights-length h table (S .used-there))
 
-    pub behind-cell : (k : ℕ) → h .used ≤ k → getD (over (weights h table) work) k 0 ≡ getD work k 0
-    behind-cell k l = over-behind (weights h table) work k (omega (arith, weights-length h table (S .used-there)))
-
     module _ (k : ℕ) (l : k < h .used) where
       pub cell : getD (over (weights h table) work) k 0 ≡ 16 * length (rowsOf k) + flagOf k
       cell =
@@ -94,6 +88,3 @@ module _ (h : Head) (table : List Record) (S : Sound h table) where
 
       pub cell-rows : rowsIn (getD (over (weights h table) work) k 0) ≡ length (rowsOf k)
       cell-rows = ap rowsIn cell ∙ rows-in (length (rowsOf k)) (flagOf k) (flag-low k l)
-
-      pub cell-flag : flagIn (getD (over (weights h table) work) k 0) ≡ flagOf k
-      cell-flag = ap flagIn cell ∙ flag-in (length (rowsOf k)) (flagOf k) (flag-low k l)

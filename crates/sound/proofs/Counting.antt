@@ -1,9 +1,9 @@
 -- The end of `count`: the two ways out of `finish`; then the public contract, from those of the two calls.
 use mathlib.Core.List.{List, []}
 use mathlib.Core.Path.{_∙_, _≡_, ap, refl, sym}
-use Prim.Native.Nat.{_≤_, min, ℕ}
+use Prim.Native.Nat.{min, ℕ}
 use native.Mathlib.Omega.{arith}
-use lib.ListN.{getD, length, replicate}
+use lib.ListN.{length, replicate}
 use Rattle.paper.specs.declared.Counted.{Counted}
 use Rattle.paper.specs.declared.Counted.the-variants as CountedIs
 use Rattle.paper.specs.declared.Head.{Head}
@@ -16,13 +16,12 @@ use Rattle.paper.specs.Questions.{countOf, questionWork}
 use Rattle.paper.specs.Records.{listings, setRows, usedOf}
 use Rattle.paper.specs.Refusals.{Reply, answer, count, over, workAfter}
 use Rattle.laws.specs.QuestionRows.{SetFits, Sound}
-use Rattle.sound.specs.Counting.{Countable, Finishes, SetThere, rowsInSet}
+use Rattle.sound.specs.Counting.{Finishes, rowsInSet}
 use Rattle.sound.specs.Face.{Counts, Weighs}
 use Rattle.sound.specs.Weights.{Weighed}
 use Rattle.sound.specs.declared.Weighed.the-variants as WeighedIs
-use Rattle.sound.proofs.Answered.{refused-reply, refused-work, sound-reply, sound-room, sound-set, sound-work}
-use Rattle.sound.proofs.Cells.{behind-cell, cell-rows, weighed-length}
-use Rattle.sound.proofs.Overwriting.{cleared}
+use Rattle.sound.proofs.Answered.{refused-reply, refused-work, sound-clears, sound-reply, sound-set, sound-work}
+use Rattle.sound.proofs.Cells.{cell-rows}
 
 -- ---- the two ways out
 module _ (w : Weighed) (h : Head) (work : List ℕ) where
@@ -45,25 +44,11 @@ module _ (h : Head) (table : List Record) (work : List ℕ) (w : Weighed) (weigh
     S : Sound h table
     S = sound-set W sound
 
-    room : h .used ≤ length work
-    room = sound-room W sound
-
-    long : length weighed ≡ length work
-    long = ap length (sound-work W sound) ∙ weighed-length h table S work room
-
-    set-there : (s : Set) → SetFits h (usedOf h table) s → SetThere weighed s
-    set-there empty fits = tt
-    set-there unit fits = tt
-    set-there (at i) fits = omega (arith, fits .0, room, long)
-
     -- the rows of the set, by its root's weight
     set-count : (s : Set) → SetFits h (usedOf h table) s → rowsInSet weighed s ≡ length (setRows (h .arity) (listings (h .arity) (usedOf h table)) s)
     set-count empty fits = refl
     set-count unit fits = refl
     set-count (at i) fits = ap (λ (cells : List ℕ). rowsInSet cells (at i)) (sound-work W sound) ∙ cell-rows h table S work i (fits .0)
-
-  pub countable : Countable w h weighed
-  countable = record { there = λ sound. set-there sound (h .set) (sound-set W sound .set) }
 
   pub face : (r : Counted) (work′ : List ℕ) → Finishes w h weighed r work′ → Counts h table work r work′
   face r work′ F = by-answer w refl
@@ -76,8 +61,7 @@ module _ (h : Head) (table : List Record) (work : List ℕ) (w : Weighed) (weigh
             answer = ap saysCounted rows ∙ ap answer (set-count said (h .set) (sound-set W said .set)) ∙ sym counted;
             worked =
                 left
-                ∙ cleared work (h .used) weighed (room said) (long said)
-                (λ k l. ap (λ (cells : List ℕ). getD cells k 0) (sound-work W said) ∙ behind-cell h table (sound-set W said) work k l)
+                ∙ sound-clears W said
                 ∙ ap (λ (reply : Reply ℕ). workAfter reply (questionWork h) work) (sym counted);
           }
       by-answer (WeighedIs.Refused why) said =

@@ -46,7 +46,7 @@ module _ (new old : List ℕ) where
       go k false e = let l : length new ≤ k = ltb-false k (length new) e in behind k l ∙ sym (over-behind k l)
 
 -- over two lists that agree behind it
-pub over-agree : (new old other : List ℕ) → length new ≤ length old → length other ≡ length old
+over-agree : (new old other : List ℕ) → length new ≤ length old → length other ≡ length old
     → ((k : ℕ) → length new ≤ k → getD other k 0 ≡ getD old k 0) → over new other ≡ over new old
 over-agree new old other h long behind =
     over-is new old (over new other) h (over-length new other (omega arith) ∙ long) (over-within new other)
@@ -62,15 +62,17 @@ module _ (work : List ℕ) where
       ∙ over-more (replicate i 0) work 0 (omega arith)
       ∙ ap (λ (zeros : List ℕ). over zeros work) (replicate-append-replicate i 1 0)
 
-  -- zeros over a work that agrees with this one behind them; and as many as `clear` writes
+  -- zeros over a work whose numbers behind them are this one's
   pub zeros-agree : (n : ℕ) (other : List ℕ) → n ≤ length work → length other ≡ length work
       → ((k : ℕ) → n ≤ k → getD other k 0 ≡ getD work k 0) → over (replicate n 0) other ≡ over (replicate n 0) work
   zeros-agree n other h long behind =
       let zeros : length {A = ℕ} (replicate n 0) ≡ n = length-replicate n 0 in
       over-agree (replicate n 0) work other (omega arith) long (λ k l. behind k (omega arith))
 
-  pub cleared : (n : ℕ) (other : List ℕ) → n ≤ length work → length other ≡ length work
-      → ((k : ℕ) → n ≤ k → getD other k 0 ≡ getD work k 0) → over (replicate (min n (length other)) 0) other ≡ over (replicate n 0) work
-  cleared n other h long behind =
-      let all : min n (length other) ≡ n = omega arith in
-      ap (λ (m : ℕ). over (replicate m 0) other) all ∙ zeros-agree n other h long behind
+-- works that are the same behind the zeros are the same with them
+pub cleared-same : (n : ℕ) (work other : List ℕ) → drop n other ≡ drop n work → over (replicate n 0) other ≡ over (replicate n 0) work
+cleared-same n work other e = rw length-replicate (ap (λ (rest : List ℕ). replicate n 0 ++ rest) e)
+
+-- as many as `clear` writes, where the work is long enough
+pub cleared-all : (n : ℕ) (work : List ℕ) → n ≤ length work → over (replicate (min n (length work)) 0) work ≡ over (replicate n 0) work
+cleared-all n work h = ap (λ (m : ℕ). over (replicate m 0) work) (let all : min n (length work) ≡ n = omega arith in all)

@@ -1,7 +1,7 @@
--- The end of `count`: what it asks for, and what it leaves.
+-- The rows of a set by the weights of its records, and the end of `count`.
 use mathlib.Core.List.{List}
 use mathlib.Core.Path.{_≡_}
-use Prim.Native.Nat.{ℕ, _<_, min}
+use Prim.Native.Nat.{ℕ, min}
 use lib.ListN.{length, getD, replicate}
 use Rattle.paper.specs.declared.Counted.{Counted}
 use Rattle.paper.specs.declared.Counted.the-variants as CountedIs
@@ -14,20 +14,11 @@ use Rattle.sound.specs.Steps.{rowsIn}
 use Rattle.sound.specs.Weights.{Weighed}
 use Rattle.sound.specs.declared.Weighed.the-variants as WeighedIs
 
--- the root has a weight
-abbrev pub SetThere : List ℕ → Set → Type 0
-SetThere weights empty = Unit {0}
-SetThere weights unit = Unit {0}
-SetThere weights (at i) = i < length weights
-
--- the rows of the set
+-- the rows of a set
 abbrev pub rowsInSet : List ℕ → Set → ℕ
 rowsInSet weights empty = 0
 rowsInSet weights unit = 1
 rowsInSet weights (at i) = rowsIn (getD weights i 0)
-
-pub record Countable (w : Weighed) (h : Head) (work : List ℕ) : Type 0 where
-  pub there : w ≡ WeighedIs.Sound → SetThere work (h .set)
 
 pub record Finishes (w : Weighed) (h : Head) (work : List ℕ) (r : Counted) (work′ : List ℕ) : Type 0 where
   pub counts : w ≡ WeighedIs.Sound

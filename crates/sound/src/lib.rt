@@ -4,10 +4,11 @@ ghost use mathlib.Core.Path.{_≡_};
 ghost use Prim.Native.Nat.{min};
 ghost use lib.ListN.{length, replicate};
 ghost use Rattle.paper.specs.Refusals.{over};
+ghost use Rattle.sound.specs.Counting.{rowsInSet};
 ghost use Rattle.sound.specs.Face.{Weighs, Counts};
 ghost use Rattle.sound.specs.Passing.{Ready, Passed};
+use crate::counted::finish;
 use crate::record::next;
-use crate::rows::finish;
 use crate::state::State;
 use crate::whole::begin;
 use crate::whole::judge;
@@ -15,9 +16,10 @@ use paper::Counted;
 use paper::Head;
 use paper::Record;
 use paper::Refusal;
+use paper::Set;
 
+mod counted;
 mod record;
-mod rows;
 mod state;
 mod whole;
 
@@ -57,6 +59,24 @@ fn drive(table: &[Record], s: State, work: &mut [u64]) -> State
         t = next(t, r, &mut *work);
     }
     t
+}
+
+// How many rows a set lists, by the weights in the work. Of a record without one it tells 0.
+pub fn set_rows(set: Set, work: &[u64]) -> u64
+    ensures { λ n. ⌜ n ≡ rowsInSet (now (work .entry)) set ⌝ }
+{
+    match set {
+        Set::Empty => 0,
+        Set::Unit => 1,
+        Set::Record(i) => {
+            let root = i as usize;
+            if root < work.len() {
+                work[root] / 16
+            } else {
+                0
+            }
+        }
+    }
 }
 
 // The lesser of two numbers.

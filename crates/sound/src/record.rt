@@ -3,7 +3,6 @@
 ghost use mathlib.Core.Bool.{_&&_};
 ghost use mathlib.Core.Path.{_≡_};
 ghost use Prim.Native.Nat.{_+_, _/_, _≤_, _<_};
-ghost use lib.Count.{ones};
 ghost use lib.Dec.{eqb};
 ghost use lib.ListN.{length};
 ghost use Rattle.paper.specs.Sound.{apart};
@@ -11,16 +10,10 @@ ghost use Rattle.sound.specs.Steps.{singleRows, unionRows, productRows, 
 use crate::state::State;
 use paper::Flag;
 use paper::Record;
+use places::filled;
 
 // The most rows that a record may list.
 const MOST_ROWS: u64 = 281474976710656;
-
-// How many places a flag has.
-fn filled(flag: u64) -> u32
-    ensures { λ n. ⌜ n ≡ ones flag ⌝ }
-{
-    u64::count_ones(flag)
-}
 
 // Whether two flags share no bit and together make the third: then its places are as many as theirs.
 fn together(a: u64, b: u64, flag: u64) -> bool

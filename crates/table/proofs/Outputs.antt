@@ -28,7 +28,7 @@ use Rattle.table.proofs.Values.{Value, Of, Good, bound, unsaid, owns-va
 --         let e = drive(table, s, &mut *work);
 --         finish(e, &mut *work, &mut *out)
 --     }
--- `weigh` and `question` have no `requires`, the others have one; each has one `ensures`. Its types: five that are passed by value, and O
+-- `drive` and `finish` have one `requires`, the others none; each has one `ensures`. Its types: five that are passed by value, and O
 pub record Types : Type 2 where
   pub head : Value
   pub number : Value
@@ -40,7 +40,6 @@ pub record Types : Type 2 where
 -- the clauses of the five contracts, and what is to be shown of them: facts on plain values
 pub record Law (T : Types) : Type 1 where
   pub Weighs : Of (T .head) → List Record → List ℕ → Of (T .weighed) → List ℕ → Type 0
-  pub Weighed : Of (T .weighed) → Of (T .head) → List ℕ → Of (T .number) → ℕ → Type 0
   pub Begins : Of (T .weighed) → Of (T .head) → List ℕ → Of (T .number) → ℕ → Of (T .state) → List ℕ → Type 0
   pub Ready : List Record → Of (T .state) → List ℕ → Type 0
   pub Drives : List Record → Of (T .state) → List ℕ → Of (T .state) → List ℕ → Type 0
@@ -49,8 +48,6 @@ pub record Law (T : Types) : Type 1 where
   pub Answers : Of (T .head) → List Record → List ℕ → Of (T .number) → List (T .output .Denot) → Of (T .answer) → List ℕ → List (T .output .Denot)
       → Type 0
   -- what each call is asked for, from what those before it have told. A lent list stays as long as it was
-  pub weighed : (h : Of (T .head)) (t : List Record) (w : List ℕ) (n : Of (T .number)) (o : List (T .output .Denot)) (r : Of (T .weighed)) (w₁ : List ℕ)
-      → length w₁ ≡ length w → Weighs h t w r w₁ → Weighed r h w₁ n (length o)
   pub ready : (h : Of (T .head)) (t : List Record) (w : List ℕ) (n : Of (T .number)) (o : List (T .output .Denot)) (r : Of (T .weighed))
       (w₁ : List ℕ) (s : Of (T .state)) (w₂ : List ℕ) → length w₁ ≡ length w → length w₂ ≡ length w₁
       → Weighs h t w r w₁ → Begins r h w₁ n (length o) s w₂ → Ready t s w₂
@@ -186,7 +183,7 @@ module _ (T : Types) (L : Law T) {M : Type 1} (𝓤 : URA M) where
   abbrev pub begin-clauses : Clauses 𝓤 (begin-ended T)
   begin-clauses κs a = record {
     ghost = Unit {0};
-    requires = λ _. fact 𝓤 (L .Weighed (a .0) (a .1 .0) (now (a .1 .1 .0)) (a .1 .1 .1 .0) (a .1 .1 .1 .1 .0));
+    requires = λ _. emp 𝓤;
     ensures = λ _ r e. fact 𝓤 (L .Begins (a .0) (a .1 .0) (now (a .1 .1 .0)) (a .1 .1 .1 .0) (a .1 .1 .1 .1 .0) r (now (e .1 .1 .0)));
   }
 
@@ -311,13 +308,14 @@ module _ (T : Types) (L : Law T) {M : Type 1} (𝓤 : URA M) where
       )
 
       goes-begin : Good (T .head) h → Good (T .number) n → length out < 2 ^ 64 → (r : Of (T .weighed)) → Good (T .weighed) r → (w : List ℕ)
-          → L .Weighed r h w n (length out) → (ν : ℕ) (δ : GName)
+          (ν : ℕ) (δ : GName)
           → ent 𝓤 (⋆ 𝓤 H A (‵ (flft (ν ∷ []) fullShare) ∷ ‵ (Mine u64 bʷ oʷ (ν ∷ []) δ (length work) w) ∷ [])) (Begin .pre (to-begin r w ν δ))
-      goes-begin good good′ small r good″ w ok ν δ =
+      goes-begin good good′ small r good″ w ν δ =
           qed W (‵ (flft (ν ∷ []) fullShare) ∷ ‵ (Mine u64 bʷ oʷ (ν ∷ []) δ (length work) w) ∷ []) ∵
-          says ! ok $ nothing ! $ move ! (1 ∷ 0 ∷ []) $ join ! $ frame ! $
-          nothing ! $ owns-number ! (length out) small $ fjoin ! $ owns-value (T .number) ! n good′ $ fjoin ! $ move ! (1 ∷ 0 ∷ []) $ fjoin ! $
-          owns-value (T .head) ! h good $ fjoin ! $ owns-value (T .weighed) ! r good″ $ fjoin ! $ done !
+          nothing ! $ move ! (1 ∷ 0 ∷ []) $ join ! $
+          nothing ! $ owns-number ! (length out) small $ fjoin ! $ owns-value (T .number) ! n good′ $ fjoin ! $ move ! (2 ∷ 0 ∷ []) $ fjoin ! $
+          owns-value (T .head) ! h good $ fjoin ! $ owns-value (T .weighed) ! r good″ $ fjoin ! $
+          nothing ! $ move ! (2 ∷ 1 ∷ 0 ∷ []) $ join ! $ join ! $ done !
 
       abbrev to-drive : Of (T .state) → List ℕ → ℕ → GName → Drive .Ghost
       to-drive s w ν δ = (
@@ -453,7 +451,7 @@ module _ (T : Types) (L : Law T) {M : Type 1} (𝓤 : URA M) where
               sets ! 32 refl (agg ! (and-then ! (value ! 30 refl) (and-then ! (part ! 12 refl refl refl) (no-more !)))) (slice-typed (work-room .0)) $
               move ! (2 ∷ 3 ∷ []) $ lends ! tt u64 bʷ oʷ w (length work) long (λ ν δ.
               group ! 2 $ use1 W (raw (Begin .pre (to-begin r w ν δ)))
-              (goes-begin head-good number-good (out-room .0) r good w (L .weighed h table work n out r w long e) ν δ) $
+              (goes-begin head-good number-good (out-room .0) r good w ν δ) $
               calls ! (fmOf 𝓤 H (W .laws) 𝓣) (begin-ended T) begin-clauses known-begin (to-begin r w ν δ) (T .state .low) (T .state .tells)
               (and-then ! (value ! 19 refl) (and-then ! (value ! 9 refl) (and-then ! (value ! 33 refl) (and-then ! (value ! 15 refl)
               (and-then ! (value ! 21 refl) (no-more !))))))

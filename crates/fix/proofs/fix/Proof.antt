@@ -24,17 +24,14 @@ use Rattle.paper.specs.declared.Head.{Head}
 use Rattle.paper.specs.declared.Record.{Record}
 use Rattle.paper.proofs.Fixed as F
 use Rattle.paper.proofs.Fixed.Laws as F′
-use Rattle.paper.proofs.Head as D
-use Rattle.paper.proofs.Head.Laws as D′
 use Rattle.sound.specs.declared.Weighed.{Weighed}
 use Rattle.sound.specs.Face.{Weighs}
-use Rattle.sound.proofs.Weighed as G
-use Rattle.sound.proofs.Weighed.Laws as G′
+use Rattle.sound.proofs.Heads.{head, weighed}
 use Rattle.fix.specs.Face.{Fixes}
 use Rattle.fix.specs.Passes.{MayImage, ImagesDone, MayRecord, RecordsDone}
 use Rattle.fix.specs.States.{State, restarted}
-use Rattle.fix.specs.Whole.{MayBegin, begun, MayFinish, Finishes}
-use Rattle.fix.proofs.Facing.{AtStart, WithImages, WithRecords, may-begin, starts, may-image, finds-images, may-record, makes-records, may-finish, faces}
+use Rattle.fix.specs.Whole.{begun, MayFinish, Finishes}
+use Rattle.fix.proofs.Facing.{AtStart, WithImages, WithRecords, starts, may-image, finds-images, may-record, makes-records, may-finish, faces}
 use Rattle.fix.proofs.state.State as S
 use Rattle.fix.proofs.state.State.Laws as S′
 use Rattle.sound.proofs.weigh as weigh
@@ -67,15 +64,9 @@ use Rattle.fix.proofs.fix.Statement as stated
 use Rattle.fix.proofs.fix.Code as code
 use Rattle.fix.proofs.fix.Code.Mir as body
 
--- what is passed by value
-abbrev head : Value
-head = struct D.the-type D′.the-laws D′.the-plain D′.the-copy
-
+-- what else is passed by value
 abbrev short : Value
 short = number w16
-
-abbrev weighed : Value
-weighed = enum G.the-type G′.the-laws G′.the-plain G′.the-copy tt
 
 abbrev state : Value
 state = struct S.the-type S′.the-laws S′.the-plain S′.the-copy
@@ -191,12 +182,13 @@ module _ {M : Type 1} (𝓤 : URA M) (H : Heap 𝓤) (A : Atoms 𝓤) (W : Given
       tt,
     )
 
-    goes-begin : Good head h → Good short place → Good short n → length target < 2 ^ 64 → (r : Weighed) → Good weighed r → MayBegin r h
+    goes-begin : Good head h → Good short place → Good short n → length target < 2 ^ 64 → (r : Weighed) → Good weighed r
         → ent 𝓤 (emp 𝓤) (Begin .pre (to-begin r))
-    goes-begin head-good place-good node-good small r good ok =
-        qed W [] ∵ says ! ok $ nothing ! $ frame ! $
+    goes-begin head-good place-good node-good small r good =
+        qed W [] ∵
         nothing ! $ owns-number ! (length target) small $ fjoin ! $ owns-value short ! n node-good $ fjoin ! $
-        owns-value short ! place place-good $ fjoin ! $ owns-value head ! h head-good $ fjoin ! $ owns-value weighed ! r good $ fjoin ! $ done !
+        owns-value short ! place place-good $ fjoin ! $ owns-value head ! h head-good $ fjoin ! $ owns-value weighed ! r good $ fjoin ! $
+        nothing ! $ nothing ! $ move ! (0 ∷ 2 ∷ []) $ join ! $ join ! $ done !
 
     abbrev to-images : State → List ℕ → ℕ → GName → Images .Ghost
     to-images s w ν δ = (
@@ -397,7 +389,7 @@ module _ {M : Type 1} (𝓤 : URA M) (H : Heap 𝓤) (A : Atoms 𝓤) (W : Given
         begins r w good long e =
             sets ! 22 refl (of-opd ! (part ! 18 refl refl refl)) (number-typed (target-room .0)) $
             use0 W (raw (Begin .pre (to-begin r)))
-            (goes-begin head-good place-good node-good (target-room .0) r good (may-begin h source work place n target r w e)) $
+            (goes-begin head-good place-good node-good (target-room .0) r good) $
             calls ! (fmOf 𝓤 H (W .laws) 𝓣) begin.ended (begin.clauses 𝓤 H A mem run) known-begin (to-begin r) (state .low) (state .tells)
             (and-then ! (value ! 21 refl) (and-then ! (value ! 9 refl) (and-then ! (value ! 15 refl) (and-then ! (value ! 17 refl)
             (and-then ! (value ! 23 refl) (no-more !))))))

@@ -19,14 +19,11 @@ use Rattle.table.proofs.Values.{Value, Good, bound, enum, owns-value, struct, u
 use Rattle.paper.specs.declared.Head.{Head}
 use Rattle.paper.specs.declared.Member.{Member}
 use Rattle.paper.specs.declared.Record.{Record}
-use Rattle.paper.proofs.Head as H
-use Rattle.paper.proofs.Head.Laws as H′
 use Rattle.paper.proofs.Member as A
 use Rattle.paper.proofs.Member.Laws as A′
 use Rattle.sound.specs.declared.Weighed.{Weighed}
 use Rattle.sound.specs.Face.{Weighs}
-use Rattle.sound.proofs.Weighed as G
-use Rattle.sound.proofs.Weighed.Laws as G′
+use Rattle.sound.proofs.Heads.{head, weighed}
 use Rattle.sound.proofs.weigh as weigh
 use Rattle.sound.proofs.weigh.Symbol as weigh-def
 use Rattle.sound.proofs.weigh.Symbol.{name as #weigh}
@@ -56,21 +53,15 @@ use Rattle.member.proofs.member.Statement as stated
 use Rattle.member.proofs.member.Code as code
 use Rattle.member.proofs.member.Code.Mir as body
 
--- what is passed by value
-abbrev head-type : Value
-head-type = struct H.the-type H′.the-laws H′.the-plain H′.the-copy
+-- what else is passed by value
+abbrev state : Value
+state = struct S.the-type S′.the-laws S′.the-plain S′.the-copy
 
-abbrev weighed-type : Value
-weighed-type = enum G.the-type G′.the-laws G′.the-plain G′.the-copy tt
-
-abbrev state-type : Value
-state-type = struct S.the-type S′.the-laws S′.the-plain S′.the-copy
-
-abbrev answer-type : Value
-answer-type = enum A.the-type A′.the-laws A′.the-plain A′.the-copy tt
+abbrev answer : Value
+answer = enum A.the-type A′.the-laws A′.the-plain A′.the-copy tt
 
 abbrev stayed : Stays (member′.ended .signature .params) (member′.ended .kept)
-stayed = (gone (by-value (head-type .type)), (gone (shown 0 tt Entry), (still 1 tt u64, (gone (shown 2 tt u16), tt))))
+stayed = (gone (by-value (head .type)), (gone (shown 0 tt Entry), (still 1 tt u64, (gone (shown 2 tt u16), tt))))
 
 module _ {M : Type 1} (𝓤 : URA M) (H : Heap 𝓤) (A : Atoms 𝓤) (W : Given 𝓤 H A) (mem : Memory → SProp 𝓤) (run : Routine → Fun 𝓤) where
   -- the contracts of the four functions that it calls
@@ -89,7 +80,7 @@ module _ {M : Type 1} (𝓤 : URA M) (H : Heap 𝓤) (A : Atoms 𝓤) (W : Given
   module _ (κ κʷ κʳ : Lft) (q qʷ qʳ : Share) (h : Head) (b o : ℕ) (γ : GName) (table : List Record) (bʷ oʷ : ℕ) (γʷ : GName) (work : List ℕ)
       (bʳ oʳ : ℕ) (γʳ : GName) (row : List ℕ) where
     abbrev head-value : Val
-    head-value = head-type .low h
+    head-value = head .low h
 
     abbrev table-slice : Val
     table-slice = sliceVal (b, o) (length table)
@@ -122,17 +113,17 @@ module _ {M : Type 1} (𝓤 : URA M) (H : Heap 𝓤) (A : Atoms 𝓤) (W : Given
     abbrev Row : Fml
     Row = Seen u16 bʳ oʳ κʳ γʳ (length row) row
 
-    exits : (r : Member) → Good answer-type r → (w : List ℕ) → length w ≡ length work → Members h table work row r w
-        → ent 𝓤 (⋆ 𝓤 H A (‵ (flft κ q) ∷ ‵ (Work w) ∷ ‵ (flft κʷ qʷ) ∷ ‵ (flft κʳ qʳ) ∷ [])) (Post (answer-type .low r))
+    exits : (r : Member) → Good answer r → (w : List ℕ) → length w ≡ length work → Members h table work row r w
+        → ent 𝓤 (⋆ 𝓤 H A (‵ (flft κ q) ∷ ‵ (Work w) ∷ ‵ (flft κʷ qʷ) ∷ ‵ (flft κʳ qʳ) ∷ [])) (Post (answer .low r))
     exits r good w long e =
         qed W (‵ (flft κ q) ∷ ‵ (Work w) ∷ ‵ (flft κʷ qʷ) ∷ ‵ (flft κʳ qʳ) ∷ []) ∵
         suffices ! _ (ends-at 𝓤 H A member′.ended stayed (member′.clauses 𝓤 H A mem run) W
-        (((κ, (κʷ, (κʳ, tt))), (q, (qʷ, (qʳ, tt))), tt, passed, machines), tt) (answer-type .low r) r (bound head-type h, (tt, (w, (tt, tt))))
+        (((κ, (κʷ, (κʳ, tt))), (q, (qʷ, (qʳ, tt))), tt, passed, machines), tt) (answer .low r) r (bound head h, (tt, (w, (tt, tt))))
         (tt, (tt, (long, (tt, tt))))) $ says ! e $
         -- the tokens, then what is had of the parameters, then the result
         nothing ! $ move ! (4 ∷ 0 ∷ []) $ join ! $ move ! (3 ∷ 0 ∷ []) $ join ! $ move ! (1 ∷ 0 ∷ []) $ join ! $ frame ! $
         nothing ! $ nothing ! $ fjoin ! $ move ! (1 ∷ 0 ∷ []) $ fjoin ! $ nothing ! $ fjoin ! $ nothing ! $ fjoin ! $ frame ! $
-        owns-value answer-type ! r good $ done !
+        owns-value answer ! r good $ done !
 
     -- ---- the calls
     abbrev to-weigh : ℕ → GName → Weigh .Ghost
@@ -147,13 +138,13 @@ module _ {M : Type 1} (𝓤 : URA M) (H : Heap 𝓤) (A : Atoms 𝓤) (W : Given
       tt,
     )
 
-    goes-weigh : Good head-type h → (ν : ℕ) (δ : GName)
+    goes-weigh : Good head h → (ν : ℕ) (δ : GName)
         → ent 𝓤 (⋆ 𝓤 H A (‵ (flft κ q) ∷ ‵ (flft (ν ∷ []) fullShare) ∷ ‵ Table ∷ ‵ (Mine u64 bʷ oʷ (ν ∷ []) δ (length work) work) ∷ []))
         (Weigh .pre (to-weigh ν δ))
     goes-weigh good ν δ =
         qed W (‵ (flft κ q) ∷ ‵ (flft (ν ∷ []) fullShare) ∷ ‵ Table ∷ ‵ (Mine u64 bʷ oʷ (ν ∷ []) δ (length work) work) ∷ []) ∵
         nothing ! $ move ! (2 ∷ 0 ∷ []) $ join ! $ move ! (1 ∷ 0 ∷ []) $ join ! $
-        nothing ! $ move ! (3 ∷ 0 ∷ []) $ fjoin ! $ move ! (2 ∷ 0 ∷ []) $ fjoin ! $ owns-value head-type ! h good $ fjoin ! $
+        nothing ! $ move ! (3 ∷ 0 ∷ []) $ fjoin ! $ move ! (2 ∷ 0 ∷ []) $ fjoin ! $ owns-value head ! h good $ fjoin ! $
         nothing ! $ move ! (2 ∷ 1 ∷ 0 ∷ []) $ join ! $ join ! $ done !
 
     abbrev to-begin : Weighed → Begin .Ghost
@@ -163,17 +154,17 @@ module _ {M : Type 1} (𝓤 : URA M) (H : Heap 𝓤) (A : Atoms 𝓤) (W : Given
         (qʳ, tt),
         tt,
         (g, (h, (at-list u16 bʳ oʳ γʳ row, tt))),
-        (weighed-type .low g ∷ [], (head-value ∷ [], (row-slice ∷ [], tt))),
+        (weighed .low g ∷ [], (head-value ∷ [], (row-slice ∷ [], tt))),
       ),
       tt,
     )
 
-    goes-begin : Good head-type h → (g : Weighed) → Good weighed-type g → FewPlaces g h
+    goes-begin : Good head h → (g : Weighed) → Good weighed g → FewPlaces g h
         → ent 𝓤 (⋆ 𝓤 H A (‵ (flft κʳ qʳ) ∷ ‵ Row ∷ [])) (Begin .pre (to-begin g))
     goes-begin good g good′ ok =
         qed W (‵ (flft κʳ qʳ) ∷ ‵ Row ∷ []) ∵
         says ! ok $ nothing ! $ move ! (1 ∷ 0 ∷ []) $ join ! $ frame ! $
-        nothing ! $ move ! (1 ∷ 0 ∷ []) $ fjoin ! $ owns-value head-type ! h good $ fjoin ! $ owns-value weighed-type ! g good′ $ fjoin ! $ done !
+        nothing ! $ move ! (1 ∷ 0 ∷ []) $ fjoin ! $ owns-value head ! h good $ fjoin ! $ owns-value weighed ! g good′ $ fjoin ! $ done !
 
     abbrev to-drive : State → List ℕ → ℕ → GName → Drive .Ghost
     to-drive s w ν δ = (
@@ -182,18 +173,18 @@ module _ {M : Type 1} (𝓤 : URA M) (H : Heap 𝓤) (A : Atoms 𝓤) (W : Given
         (q, (fullShare, tt)),
         tt,
         (at-list Entry b o γ table, (s, (at-list u64 bʷ oʷ δ w, tt))),
-        (table-slice ∷ [], (state-type .low s ∷ [], (work-slice ∷ [], tt))),
+        (table-slice ∷ [], (state .low s ∷ [], (work-slice ∷ [], tt))),
       ),
       tt,
     )
 
-    goes-drive : (s : State) → Good state-type s → (w : List ℕ) → Ready table s w → (ν : ℕ) (δ : GName)
+    goes-drive : (s : State) → Good state s → (w : List ℕ) → Ready table s w → (ν : ℕ) (δ : GName)
         → ent 𝓤 (⋆ 𝓤 H A (‵ (flft κ q) ∷ ‵ (flft (ν ∷ []) fullShare) ∷ ‵ Table ∷ ‵ (Mine u64 bʷ oʷ (ν ∷ []) δ (length work) w) ∷ []))
         (Drive .pre (to-drive s w ν δ))
     goes-drive s good w ok ν δ =
         qed W (‵ (flft κ q) ∷ ‵ (flft (ν ∷ []) fullShare) ∷ ‵ Table ∷ ‵ (Mine u64 bʷ oʷ (ν ∷ []) δ (length work) w) ∷ []) ∵
         says ! ok $ nothing ! $ move ! (2 ∷ 0 ∷ []) $ join ! $ move ! (1 ∷ 0 ∷ []) $ join ! $ frame ! $
-        nothing ! $ move ! (2 ∷ 0 ∷ []) $ fjoin ! $ owns-value state-type ! s good $ fjoin ! $ move ! (1 ∷ 0 ∷ []) $ fjoin ! $ done !
+        nothing ! $ move ! (2 ∷ 0 ∷ []) $ fjoin ! $ owns-value state ! s good $ fjoin ! $ move ! (1 ∷ 0 ∷ []) $ fjoin ! $ done !
 
     abbrev to-finish : State → List ℕ → ℕ → GName → Finish .Ghost
     to-finish e w ν δ = (
@@ -202,23 +193,23 @@ module _ {M : Type 1} (𝓤 : URA M) (H : Heap 𝓤) (A : Atoms 𝓤) (W : Given
         (fullShare, tt),
         tt,
         (e, (h, (at-list u64 bʷ oʷ δ w, tt))),
-        (state-type .low e ∷ [], (head-value ∷ [], (work-slice ∷ [], tt))),
+        (state .low e ∷ [], (head-value ∷ [], (work-slice ∷ [], tt))),
       ),
       tt,
     )
 
-    goes-finish : Good head-type h → (e : State) → Good state-type e → (w : List ℕ) (ν : ℕ) (δ : GName)
+    goes-finish : Good head h → (e : State) → Good state e → (w : List ℕ) (ν : ℕ) (δ : GName)
         → ent 𝓤 (⋆ 𝓤 H A (‵ (flft (ν ∷ []) fullShare) ∷ ‵ (Mine u64 bʷ oʷ (ν ∷ []) δ (length work) w) ∷ [])) (Finish .pre (to-finish e w ν δ))
     goes-finish good e good′ w ν δ =
         qed W (‵ (flft (ν ∷ []) fullShare) ∷ ‵ (Mine u64 bʷ oʷ (ν ∷ []) δ (length work) w) ∷ []) ∵
         nothing ! $ move ! (1 ∷ 0 ∷ []) $ join ! $
-        nothing ! $ move ! (2 ∷ 0 ∷ []) $ fjoin ! $ owns-value head-type ! h good $ fjoin ! $ owns-value state-type ! e good′ $ fjoin ! $
+        nothing ! $ move ! (2 ∷ 0 ∷ []) $ fjoin ! $ owns-value head ! h good $ fjoin ! $ owns-value state ! e good′ $ fjoin ! $
         nothing ! $ move ! (2 ∷ 1 ∷ 0 ∷ []) $ join ! $ join ! $ done !
 
     -- ---- the walk
     module _ (𝓣 : Tables 𝓤 H) (known-weigh : Triple 𝓤 (𝓣 .C #weigh) Weigh) (known-begin : Triple 𝓤 (𝓣 .C #begin) Begin)
         (known-drive : Triple 𝓤 (𝓣 .C #drive) Drive) (known-finish : Triple 𝓤 (𝓣 .C #finish) Finish)
-        (head-good : Good head-type h) (table-room : Room Entry (length table)) (work-room : Room u64 (length work)) (row-room : Room u16 (length row)) where
+        (head-good : Good head h) (table-room : Room Entry (length table)) (work-room : Room u64 (length work)) (row-room : Room u16 (length row)) where
       module _ (bs : Blocks (code.function .locals)) where
         abbrev env : List (Ty × ℕ)
         env = envOf (code.function .locals) bs
@@ -232,33 +223,33 @@ module _ {M : Type 1} (𝓤 : URA M) (H : Heap 𝓤) (A : Atoms 𝓤) (W : Given
         loan more = full (vptr bʷ oʷ) ∷ full work-slice ∷ more
 
         -- the work is lent to `finish`. The table and the row have been given up
-        finishes : (g : Weighed) (s e : State) (w : List ℕ) → length w ≡ length work → Good state-type e
+        finishes : (g : Weighed) (s e : State) (w : List ℕ) → length w ≡ length work → Good state e
             → ((r : Member) (w′ : List ℕ) → Finishes e h w r w′ → Members h table work row r w′)
             → Sq W (‵ (Work w) ∷ ‵ (flft κʷ qʷ) ∷ ‵ (flft κ q) ∷ ‵ (flft κʳ qʳ)
-            ∷ locals env (holds (full (weighed-type .low g) ∷ full (state-type .low s) ∷ full (state-type .low e) ∷ loan (loan []))) [])
+            ∷ locals env (holds (full (weighed .low g) ∷ full (state .low s) ∷ full (state .low e) ∷ loan (loan []))) [])
             (runs (𝓣 .C) (𝓣 .Λ) env body.t-8 (atRet env Post))
         finishes g s e w long good whole =
             sets ! 28 refl (elements ! 10 refl refl refl refl) (tt, tt) $
             sets ! 30 refl (agg ! (and-then ! (value ! 28 refl) (and-then ! (part ! 10 refl refl refl) (no-more !)))) (slice-typed (work-room .0)) $
             lends ! tt u64 bʷ oʷ w (length work) long (λ ν δ.
             group ! 2 $ use1 W (raw (Finish .pre (to-finish e w ν δ))) (goes-finish head-good e good w ν δ) $
-            calls ! (fmOf 𝓤 H (W .laws) 𝓣) finish′.ended (finish′.clauses 𝓤 H A mem run) known-finish (to-finish e w ν δ) (answer-type .low) (answer-type .tells)
+            calls ! (fmOf 𝓤 H (W .laws) 𝓣) finish′.ended (finish′.clauses 𝓤 H A mem run) known-finish (to-finish e w ν δ) (answer .low) (answer .tells)
             (and-then ! (value ! 19 refl) (and-then ! (value ! 7 refl) (and-then ! (value ! 31 refl) (no-more !))))
             (λ r us good′. heard ! (Finishes e h w r (us .1 .1 .0)) (λ f.
             use1 W (‵ (flft (ν ∷ []) fullShare) ⊛ ‵ ftrue) (id⊢ 𝓤 _) $ split ! $
             move ! (2 ∷ []) $ fsplit ! $ drop ! $ fsplit ! $ drop ! $ fsplit ! $ fsplit ! $ move ! (1 ∷ []) $ feqL ! (λ work-long.
             -- [the work's last list; true; the call's token; true; the loan; who waits; the table's token; the row's; local j at 8 + 2 * j]
             move ! (2 ∷ 0 ∷ 4 ∷ 5 ∷ []) $ has-back ! tt u64 bʷ oʷ w (us .1 .1 .0) (length work) work-room long (work-long ∙ long) $
-            land ! (from ! (stop !)) (init ! 6 refl (answer-type .typed 𝓤 H A W r good′)) $
-            move ! (span 6 28) $ leaves ! (answer-type .low r) (full _ ∷ full _ ∷ full _ ∷ full _ ∷ full _ ∷ full _ ∷ full _ ∷ full _ ∷ full _ ∷ full _ ∷ full _
+            land ! (from ! (stop !)) (init ! 6 refl (answer .typed 𝓤 H A W r good′)) $
+            move ! (span 6 28) $ leaves ! (answer .low r) (full _ ∷ full _ ∷ full _ ∷ full _ ∷ full _ ∷ full _ ∷ full _ ∷ full _ ∷ full _ ∷ full _ ∷ full _
             ∷ full _ ∷ full _ ∷ []) $
             keep ! (4 ∷ 0 ∷ 1 ∷ 5 ∷ []) $
             by ! (exits r good′ (us .1 .1 .0) (work-long ∙ long) (whole r (us .1 .1 .0) f))))))
 
         -- the work is lent to `drive`, and the table given up to it
-        drives : (g : Weighed) (s : State) (w : List ℕ) → length w ≡ length work → Good state-type s → Weighs h table work g w → s ≡ begun g h row
+        drives : (g : Weighed) (s : State) (w : List ℕ) → length w ≡ length work → Good state s → Weighs h table work g w → s ≡ begun g h row
             → Sq W (‵ (Work w) ∷ ‵ (flft κʷ qʷ) ∷ ‵ Table ∷ ‵ (flft κ q) ∷ ‵ (flft κʳ qʳ)
-            ∷ locals env (holds (full (weighed-type .low g) ∷ full (state-type .low s) ∷ bare ∷ loan [])) [])
+            ∷ locals env (holds (full (weighed .low g) ∷ full (state .low s) ∷ bare ∷ loan [])) [])
             (runs (𝓣 .C) (𝓣 .Λ) env body.t-5 (atRet env Post))
         drives g s w long good e is =
             sets ! 25 refl (elements ! 11 refl refl refl refl) (tt, tt) $
@@ -267,7 +258,7 @@ module _ {M : Type 1} (𝓤 : URA M) (H : Heap 𝓤) (A : Atoms 𝓤) (W : Given
             move ! (5 ∷ 0 ∷ 4 ∷ 1 ∷ []) $ group ! 4 $
             use1 W (raw (Drive .pre (to-drive s w ν δ)))
             (goes-drive s good w (subst (λ (t : State). Ready table t w) (sym is) (ready h table work row g w e long)) ν δ) $
-            calls ! (fmOf 𝓤 H (W .laws) 𝓣) drive.ended (drive.clauses 𝓤 H A mem run) known-drive (to-drive s w ν δ) (state-type .low) (state-type .tells)
+            calls ! (fmOf 𝓤 H (W .laws) 𝓣) drive.ended (drive.clauses 𝓤 H A mem run) known-drive (to-drive s w ν δ) (state .low) (state .tells)
             (and-then ! (value ! 8 refl) (and-then ! (value ! 16 refl) (and-then ! (value ! 26 refl) (no-more !))))
             (λ x us good′. heard ! (Driven table s w x (us .1 .1 .0)) (λ d.
             use1 W (‵ (flft κ q) ⊛ ‵ (flft (ν ∷ []) fullShare) ⊛ ‵ ftrue) (id⊢ 𝓤 _) $ split3 ! $
@@ -275,36 +266,36 @@ module _ {M : Type 1} (𝓤 : URA M) (H : Heap 𝓤) (A : Atoms 𝓤) (W : Given
             -- [the work's last list; true; the tokens; true; the loan; who waits; the row's token; local j at 8 + 2 * j]
             move ! (3 ∷ 0 ∷ 5 ∷ 6 ∷ []) $ has-back ! tt u64 bʷ oʷ w (us .1 .1 .0) (length work) work-room long (work-long ∙ long) $
             keep ! (0 ∷ 1 ∷ 3 ∷ 5 ∷ span 6 28) $
-            land ! (from ! (stop !)) (init ! 18 refl (state-type .typed 𝓤 H A W x good′)) $
+            land ! (from ! (stop !)) (init ! 18 refl (state .typed 𝓤 H A W x good′)) $
             finishes g s x (us .1 .1 .0) (work-long ∙ long) good′
             (λ r w′ f. face h table work row w x (us .1 .1 .0) (work-long ∙ long) r w′ f g e
             (subst (λ (t : State). Driven table t w x (us .1 .1 .0)) is d))))))
 
         -- the row is given up to `begin`
-        begins : (g : Weighed) (w : List ℕ) → length w ≡ length work → Good weighed-type g → Weighs h table work g w
+        begins : (g : Weighed) (w : List ℕ) → length w ≡ length work → Good weighed g → Weighs h table work g w
             → Sq W (‵ (Work w) ∷ ‵ (flft κʷ qʷ) ∷ ‵ Table ∷ ‵ (flft κ q) ∷ ‵ Row ∷ ‵ (flft κʳ qʳ)
-            ∷ locals env (holds (full (weighed-type .low g) ∷ bare ∷ bare ∷ loan [])) [])
+            ∷ locals env (holds (full (weighed .low g) ∷ bare ∷ bare ∷ loan [])) [])
             (runs (𝓣 .C) (𝓣 .Λ) env body.t-4 (atRet env Post))
         begins g w long good e =
             move ! (5 ∷ 4 ∷ []) $ group ! 2 $
             use1 W (raw (Begin .pre (to-begin g))) (goes-begin head-good g good (few-places h table work row g w e)) $
-            calls ! (fmOf 𝓤 H (W .laws) 𝓣) begin.ended (begin.clauses 𝓤 H A mem run) known-begin (to-begin g) (state-type .low) (state-type .tells)
+            calls ! (fmOf 𝓤 H (W .laws) 𝓣) begin.ended (begin.clauses 𝓤 H A mem run) known-begin (to-begin g) (state .low) (state .tells)
             (and-then ! (value ! 15 refl) (and-then ! (value ! 7 refl) (and-then ! (value ! 13 refl) (no-more !))))
             (λ s us good′. heard ! (s ≡ begun g h row) (λ is.
             use1 W (‵ (flft κʳ qʳ) ⊛ ‵ ftrue) (id⊢ 𝓤 _) $ split ! $
             -- [the row's token; true; what is said of the parameters; the work; its token; the table; its token; local j at 7 + 2 * j]
             keep ! (3 ∷ 4 ∷ 5 ∷ 6 ∷ 0 ∷ span 7 28) $
-            land ! (from ! (stop !)) (init ! 17 refl (state-type .typed 𝓤 H A W s good′)) $
+            land ! (from ! (stop !)) (init ! 17 refl (state .typed 𝓤 H A W s good′)) $
             drives g s w long good′ e is))
 
       walk : ent 𝓤 (onEntry 𝓤 H A member′.signature (κ, (κʷ, (κʳ, tt))) (q, (qʷ, (qʳ, tt))) passed machines)
           (WpFn 𝓤 H (𝓣 .C) (𝓣 .Λ) code.function (head-value ∷ table-slice ∷ work-slice ∷ row-slice ∷ []) Post)
       walk =
           qed W ((‵ (flft κ q) ⊛ ‵ (flft κʷ qʷ) ⊛ ‵ (flft κʳ qʳ) ⊛ ‵ ftrue)
-          ∷ ‵ (owns (head-type .type ∷ ShrSlice (named 0) κ Entry ∷ MutSlice (named 1) κʷ u64 ∷ ShrSlice (named 2) κʳ u16 ∷ []) passed machines) ∷ []) ∵
+          ∷ ‵ (owns (head .type ∷ ShrSlice (named 0) κ Entry ∷ MutSlice (named 1) κʷ u64 ∷ ShrSlice (named 2) κʳ u16 ∷ []) passed machines) ∷ []) ∵
           enters ! (𝓣 .C) (𝓣 .Λ) code.function (head-value ∷ table-slice ∷ work-slice ∷ row-slice ∷ []) Post
           (λ bs. (
-            head-type .typed 𝓤 H A W h head-good,
+            head .typed 𝓤 H A W h head-good,
             (slice-typed (table-room .0), (slice-typed (work-room .0), (slice-typed (row-room .0), tt))),
           )) (λ bs.
           -- [local j at 2 * j; the tokens; what the parameters own]
@@ -319,7 +310,7 @@ module _ {M : Type 1} (𝓤 : URA M) (H : Heap 𝓤) (A : Atoms 𝓤) (W : Given
           move ! (4 ∷ []) $ use1 W (‵ Table ⊛ ‵ Table) (shr-slice-copy 𝓤 H A W (named 0) κ Entry .twice (at-list Entry b o γ table) (table-slice ∷ [])) $
           split ! $ move ! (6 ∷ 2 ∷ 0 ∷ 3 ∷ []) $ group ! 4 $
           use1 W (raw (Weigh .pre (to-weigh ν δ))) (goes-weigh head-good ν δ) $
-          calls ! (fmOf 𝓤 H (W .laws) 𝓣) weigh.ended (weigh.clauses 𝓤 H A mem run) known-weigh (to-weigh ν δ) (weighed-type .low) (weighed-type .tells)
+          calls ! (fmOf 𝓤 H (W .laws) 𝓣) weigh.ended (weigh.clauses 𝓤 H A mem run) known-weigh (to-weigh ν δ) (weighed .low) (weighed .tells)
           (and-then ! (value ! 8 refl) (and-then ! (value ! 10 refl) (and-then ! (value ! 24 refl) (no-more !))))
           (λ g us good. heard ! (Weighs h table work g (us .1 .1 .0)) (λ e.
           use1 W (‵ (flft κ q) ⊛ ‵ (flft (ν ∷ []) fullShare) ⊛ ‵ ftrue) (id⊢ 𝓤 _) $ split3 ! $
@@ -327,16 +318,16 @@ module _ {M : Type 1} (𝓤 : URA M) (H : Heap 𝓤) (A : Atoms 𝓤) (W : Given
           -- [the work's last list; true; the tokens; true; the table; the loan; who waits; the row; its token; local j at 10 + 2 * j]
           move ! (3 ∷ 0 ∷ 6 ∷ 7 ∷ []) $ has-back ! tt u64 bʷ oʷ work (us .1 .1 .0) (length work) work-room refl work-long $
           keep ! (0 ∷ 1 ∷ 5 ∷ 3 ∷ 6 ∷ 7 ∷ span 8 28) $
-          land ! (from ! (stop !)) (init ! 16 refl (weighed-type .typed 𝓤 H A W g good)) $
+          land ! (from ! (stop !)) (init ! 16 refl (weighed .typed 𝓤 H A W g good)) $
           begins bs g (us .1 .1 .0) work-long good e)))))
 
 pub member-spec : {M : Type 1} → stated.statement M
 unfolding code.routine tablesOf
 member-spec 𝓤 H 𝓜 𝓖 𝓡 =
     finish 𝓤 H 𝓜 𝓖 𝓡 member′.ended stayed (member′.clauses 𝓤 H (𝓖 .A) (𝓜 .mem) (𝓡 .run)) code.env #member code.function (code.unfolded 𝓤 H 𝓜 𝓡)
-    (goes-gone (givenOf 𝓤 H 𝓜 𝓖) 3 (by-value (head-type .type)) (λ κs. unsaid head-type), (goes-shown (givenOf 𝓤 H 𝓜 𝓖) 3 0 tt Entry, (goes-still (givenOf 𝓤 H 𝓜 𝓖) 3 1 tt u64, (goes-shown (givenOf 𝓤 H 𝓜 𝓖) 3 2 tt u16, tt))))
-    (λ κs. ((λ h. head-type .low h ∷ []), (slice-vals, (slice-vals, (slice-vals, tt)))))
-    (λ κs. (head-type .tells, (shr-slice-tells (named 0) (κs .0) Entry, (mut-slice-tells (named 1) (κs .1 .0) u64, (shr-slice-tells (named 2) (κs .1 .1 .0) u16, tt)))))
+    (goes-gone (givenOf 𝓤 H 𝓜 𝓖) 3 (by-value (head .type)) (λ κs. unsaid head), (goes-shown (givenOf 𝓤 H 𝓜 𝓖) 3 0 tt Entry, (goes-still (givenOf 𝓤 H 𝓜 𝓖) 3 1 tt u64, (goes-shown (givenOf 𝓤 H 𝓜 𝓖) 3 2 tt u16, tt))))
+    (λ κs. ((λ h. head .low h ∷ []), (slice-vals, (slice-vals, (slice-vals, tt)))))
+    (λ κs. (head .tells, (shr-slice-tells (named 0) (κs .0) Entry, (mut-slice-tells (named 1) (κs .1 .0) u64, (shr-slice-tells (named 2) (κs .1 .1 .0) u16, tt)))))
     (λ κs qs bounds a g are. via 𝓤 _ (fst∗ 𝓤 _ (emp 𝓤))
     (walk 𝓤 H (𝓖 .A) (givenOf 𝓤 H 𝓜 𝓖) (𝓜 .mem) (𝓡 .run) (κs .0) (κs .1 .0) (κs .1 .1 .0) (qs .0) (qs .1 .0) (qs .1 .1 .0)
     (a .0) (a .1 .0 .ptr .0) (a .1 .0 .ptr .1) (a .1 .0 .name) (a .1 .0 .now) (a .1 .1 .0 .ptr .0) (a .1 .1 .0 .ptr .1) (a .1 .1 .0 .name) (a .1 .1 .0 .now)

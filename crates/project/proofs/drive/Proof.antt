@@ -54,7 +54,7 @@ starts : (table : List Record) (x : Held) → Ready table (x .state) (x .work) �
 starts table x ready = record { ready = ready; index = refl; used = refl; nodes = refl; answer = refl; worked = refl }
 
 asks : (table : List Record) (x₀ x : Held) → Before table x₀ x → x .state .going ≡ true
-    → (x .state .at < length table) × InWork (x .state .at) (x .state .index) (entry table (x .state .at)) (x .work)
+    → (x .state .at < length table) × InWork (x .state .at) (entry table (x .state .at)) (x .work)
 asks table x₀ x before going =
     let turns = turns-going (x .state) going in
     (omega (arith, before .ready .there, turns), before .ready .cells (x .state .at) (omega (arith, turns)))
@@ -83,11 +83,10 @@ onward table x₀ x y long long′ before going told = (
     index : y .state .index ≡ x .state .index
     index = ap (λ (s : State). s .index) (told .state)
 
-    cells : (k : ℕ) → k < turnsLeft (y .state) → InWork k (y .state .index) (entry table k) (y .work)
+    cells : (k : ℕ) → k < turnsLeft (y .state) → InWork k (entry table k) (y .work)
     cells k h =
         let c = before .ready .cells k (omega (arith, turns, fewer)) in
         record {
-          index-small = omega (arith, index, c .index-small);
           own = omega (arith, c .own);
           left = omega (arith, c .left);
           right = omega (arith, c .right);
@@ -104,7 +103,7 @@ stops table x₀ x before stopped = record {
 
 abbrev law : Law u64 shape at-field
 law = record {
-  Ask = λ s r w. InWork (s .at) (s .index) r w;
+  Ask = λ s r w. InWork (s .at) r w;
   Tell = λ s r w s′ w′. Passes s r w s′ w′;
   Ready = λ t x. Ready t (x .state) (x .work);
   Asked = λ t x y. Driven t (x .state) (x .work) (y .state) (y .work);

@@ -6,12 +6,9 @@ use contract.Running.{givenOf, tables, tablesOf}
 use denote.Builtin.{u8}
 use denote.Triple.Spec.{tripleOf}
 use denote.Triple.Table.{entered, cited}
-use Rattle.paper.proofs.Head as Head
-use Rattle.paper.proofs.Head.Laws as HeadLaws
 use Rattle.paper.proofs.Projected as Projected
 use Rattle.paper.proofs.Projected.Laws as ProjectedLaws
-use Rattle.sound.proofs.Weighed as Weighed
-use Rattle.sound.proofs.Weighed.Laws as WeighedLaws
+use Rattle.sound.proofs.Heads.{head, weighed}
 use Rattle.sound.proofs.weigh.Symbol as weigh-def
 use Rattle.sound.proofs.weigh.Symbol.{name as #weigh}
 use Rattle.sound.proofs.weigh.Met as weigh-thm
@@ -21,7 +18,7 @@ use Rattle.table.proofs.Values.{enum, number, struct}
 use Rattle.project.specs.Face.{Projects}
 use Rattle.project.specs.Marks.{Finishable, Finishes}
 use Rattle.project.specs.Passing.{Driven, Ready}
-use Rattle.project.specs.Starting.{Begins, Beginnable}
+use Rattle.project.specs.Starting.{Begins}
 use Rattle.project.proofs.Facing as Facing
 use Rattle.project.proofs.state.State as State
 use Rattle.project.proofs.state.State.Laws as StateLaws
@@ -41,9 +38,9 @@ use Rattle.project.proofs.project.Code as code
 
 abbrev types : Types
 types = record {
-  head = struct Head.the-type HeadLaws.the-laws HeadLaws.the-plain HeadLaws.the-copy;
+  head = head;
   number = number w16;
-  weighed = enum Weighed.the-type WeighedLaws.the-laws WeighedLaws.the-plain WeighedLaws.the-copy tt;
+  weighed = weighed;
   state = struct State.the-type StateLaws.the-laws StateLaws.the-plain StateLaws.the-copy;
   answer = enum Projected.the-type ProjectedLaws.the-laws ProjectedLaws.the-plain ProjectedLaws.the-copy tt;
   output = u8;
@@ -52,14 +49,12 @@ types = record {
 abbrev law : Law types
 law = record {
   Weighs = Weighs;
-  Weighed = λ r h w place room. Beginnable r h w;
   Begins = Begins;
   Ready = Ready;
   Drives = Driven;
   Driven = Finishable;
   Finishes = Finishes;
   Answers = Projects;
-  weighed = Facing.weighed;
   ready = Facing.ready;
   driven = Facing.driven;
   answers = Facing.answers;

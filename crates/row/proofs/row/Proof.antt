@@ -7,20 +7,17 @@ use denote.Triple.Spec.{tripleOf}
 use denote.Triple.Table.{entered, cited}
 use Rattle.table.proofs.Outputs.{Begin, Drive, Finish, Law, Types, Weigh, output-meets}
 use Rattle.table.proofs.Values.{enum, number, struct}
-use Rattle.paper.proofs.Head as Head
-use Rattle.paper.proofs.Head.Laws as HeadLaws
 use Rattle.paper.proofs.Written as Written
 use Rattle.paper.proofs.Written.Laws as WrittenLaws
 use Rattle.sound.specs.Face.{Weighs}
-use Rattle.sound.proofs.Weighed as Weighed
-use Rattle.sound.proofs.Weighed.Laws as WeighedLaws
+use Rattle.sound.proofs.Heads.{head, weighed}
 use Rattle.sound.proofs.weigh.Symbol as weigh-def
 use Rattle.sound.proofs.weigh.Symbol.{name as #weigh}
 use Rattle.sound.proofs.weigh.Met as weigh-thm
 use Rattle.row.specs.Descending.{Descended, Ready}
 use Rattle.row.specs.Face.{Numbers}
-use Rattle.row.specs.Whole.{Begins, Finishes, Weighty, Writable}
-use Rattle.row.proofs.Facing.{drive-ready, row-numbers, row-writable, weighty}
+use Rattle.row.specs.Whole.{Begins, Finishes, Writable}
+use Rattle.row.proofs.Facing.{drive-ready, row-numbers, row-writable}
 use Rattle.row.proofs.state.State as State
 use Rattle.row.proofs.state.State.Laws as StateLaws
 use Rattle.row.proofs.whole.begin.Symbol as begin-def
@@ -39,9 +36,9 @@ use Rattle.row.proofs.row.Code as code
 
 abbrev types : Types
 types = record {
-  head = struct Head.the-type HeadLaws.the-laws HeadLaws.the-plain HeadLaws.the-copy;
+  head = head;
   number = number w64;
-  weighed = enum Weighed.the-type WeighedLaws.the-laws WeighedLaws.the-plain WeighedLaws.the-copy tt;
+  weighed = weighed;
   state = struct State.the-type StateLaws.the-laws StateLaws.the-plain StateLaws.the-copy;
   answer = enum Written.the-type WrittenLaws.the-laws WrittenLaws.the-plain WrittenLaws.the-copy tt;
   output = u16;
@@ -50,14 +47,12 @@ types = record {
 abbrev law : Law types
 law = record {
   Weighs = Weighs;
-  Weighed = λ r h w n room. Weighty r h w;
   Begins = Begins;
   Ready = Ready;
   Drives = Descended;
   Driven = λ e w o. Writable e o;
   Finishes = Finishes;
   Answers = Numbers;
-  weighed = λ h t w n o r w₁ long W. weighty h t w w₁ long r W;
   ready = λ h t w n o r w₁ s w₂ _ _ W g. drive-ready h t w n o r W g;
   driven = λ h t w n o r w₁ s w₂ e w₃ _ _ _ W g d. row-writable h t w n o d r W g;
   answers = λ h t w n o r w₁ s w₂ e w₃ a w₄ o′ _ _ _ _ _ W g d f. row-numbers h t w n o d r W g f;

@@ -14,6 +14,12 @@ use Rattle.fix.proofs.image.image_of.Tie as tie
 abbrev image : tie.Start → List Record → List Record × Set
 image c = let a = c .args in imageWith (a .place - 1) (a .node) (a .r) (setIn (a .left)) (setIn (a .right))
 
+sub-index : tie.Need-sub-index
+sub-index c = search needs
+
+cast-index : tie.Need-cast-index
+cast-index c = search needs
+
 without-place-requires : tie.Need-without-place-requires
 without-place-requires c κs = search needs
 
@@ -79,6 +85,8 @@ pub image-of-spec : {M : Type 1} → statement M
 image-of-spec =
     tie.close
     (tie.spec
+    sub-index
+    cast-index
     without-place-requires
     has-place-requires
     no-record-requires

@@ -1,7 +1,7 @@
 -- `whole::begin` makes the tests in their order.
 use mathlib.Core.Path.{_∙_, sym}
 use borrow.Author.Tests.{not-false, not-true}
-use Rattle.fix.proofs.Beginning.{begins, few-places, no-entries, no-node, not-open, weigh-refused}
+use Rattle.fix.proofs.Beginning.{begins, no-entries, no-node, not-open, weigh-refused}
 use borrow.Author.Needs.{needs}
 use Rattle.fix.proofs.whole.begin.Statement.{statement}
 use Rattle.fix.proofs.whole.begin.Tie as tie
@@ -19,11 +19,7 @@ cast-used : tie.Need-cast-used
 cast-used c = search needs
 
 is-open-requires : tie.Need-is-open-requires
-is-open-requires c κs =
-    let told = c .before in
-    let start = told .before .before in
-    let a = start .args in
-    few-places (a .w) (a .head) (told .enum-told .given .1) (start .pre)
+is-open-requires c κs = search needs
 
 refuse-requires-2 : tie.Need-refuse-requires-2
 refuse-requires-2 c κs = search needs

@@ -1,6 +1,7 @@
 -- `whole::finish` gives the answer and clears the work.
-use Rattle.fix.proofs.Finishing.{clears}
+use mathlib.Core.Path.{_∙_}
 use borrow.Author.Needs.{needs}
+use Rattle.sound.proofs.Overwriting.{cleared-all}
 use Rattle.fix.proofs.whole.finish.Statement.{statement}
 use Rattle.fix.proofs.whole.finish.Tie as tie
 
@@ -21,7 +22,7 @@ returns c =
     let a = start .args in
     record {
       answer = told .answer .ensures;
-      cleared = clears (a .t .used) (a .work .now) (done .clear .last .0) (start .pre .room) (done .clear .ensures);
+      cleared = done .clear .ensures ∙ cleared-all (a .t .used) (a .work .now) (start .pre .room);
     }
 
 pub finish-spec : {M : Type 1} → statement M

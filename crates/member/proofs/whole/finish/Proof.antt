@@ -1,11 +1,9 @@
 -- `whole::finish` gives the answer, and clears the work where it is as long as asked.
-use mathlib.Core.Path.{_∙_, _≡_, ap, refl}
-use Prim.Native.Nat.{min, ℕ}
-use native.Mathlib.Omega.{arith}
+use mathlib.Core.Path.{_∙_, refl}
 use borrow.Author.Needs.{needs}
 use borrow.Author.Tests.{le-leb, lt-leb}
 use lib.ListN.{length}
-use Rattle.member.specs.Whole.{cleared}
+use Rattle.sound.proofs.Overwriting.{cleared-all}
 use Rattle.member.proofs.whole.finish.Statement.{statement}
 use Rattle.member.proofs.whole.finish.Tie as tie
 
@@ -23,12 +21,11 @@ returns c =
     let done = c .before .before in
     let start = done .before .before .before .before .before in
     let a = start .args in
-    let all : min (a .head .used) (length (a .work .now)) ≡ a .head .used = omega (arith, done .before .before .if1 .taken) in
     record {
       answer = refl;
       worked =
           done .clear .ensures
-          ∙ ap (λ (n : ℕ). cleared n (a .work .now)) all
+          ∙ cleared-all (a .head .used) (a .work .now) (done .before .before .if1 .taken)
           ∙ rw (le-leb (a .head .used) (length (a .work .now)) (done .before .before .if1 .taken));
     }
 

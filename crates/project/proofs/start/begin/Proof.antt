@@ -14,7 +14,7 @@ enum-told : tie.Need-enum-told
 enum-told c = search needs
 
 start-requires : tie.Need-start-requires
-start-requires c κs = rw (c .before .enum-told .given .1) at (c .before .before .before .before .pre)
+start-requires c κs = search needs
 
 returns : tie.Need-returns
 returns c = rw (c .before .before .w .given .1) (record { state = c .refused .ensures; worked = refl })

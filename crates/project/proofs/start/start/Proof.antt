@@ -1,23 +1,11 @@
 -- `start::start` clears the work, refuses with 7 or 10, and comes to the root.
-use mathlib.Core.Path.{_∙_, _≡_, ap, sym}
-use native.Mathlib.Omega.{arith}
-use mathlib.Core.Bool.{true}
+use mathlib.Core.Path.{_∙_, ap, sym}
 use borrow.Author.Tests.{le-leb, lt-leb, not-false, not-true}
-use lib.ListN.{length}
-use Rattle.paper.specs.Refusals.{isOpen}
 use Rattle.laws.proofs.OpenPlaces.{open-from-one}
 use Rattle.project.specs.Starting.{rootMarked}
-use Rattle.project.proofs.Clearing.{cleared, cleared-all, cleared-length}
 use borrow.Author.Needs.{needs}
 use Rattle.project.proofs.start.start.Statement.{statement}
 use Rattle.project.proofs.start.start.Tie as tie
-
--- the work once it is cleared
-clears : (c : tie.After-clear) → let start = c .before .before .before .before in
-    c .clear .last .0 ≡ cleared (start .args .work .now) (start .args .head .used)
-clears c =
-    let start = c .before .before .before .before in
-    c .clear .ensures ∙ cleared-all (start .args .work .now) (start .args .head .used) (start .pre .room)
 
 cast-clear : tie.Need-cast-clear
 cast-clear c = search needs
@@ -37,7 +25,7 @@ same-length c = search needs
 returns : tie.Need-returns
 returns c =
     let tested = c .before .before in
-    rw (sym (tested .is-open .ensures) ∙ not-true _ (c .before .if1 .taken)) (c .refused .ensures, clears (tested .before .before .before))
+    rw (sym (tested .is-open .ensures) ∙ not-true _ (c .before .if1 .taken)) (c .refused .ensures, tested .before .before .before .clear .ensures)
 
 cast-if2 : tie.Need-cast-if2
 cast-if2 c = search needs
@@ -52,18 +40,14 @@ returns-2 : tie.Need-returns-2
 returns-2 c =
     let tested = c .before .before .before .before in
     rw (sym (tested .is-open .ensures) ∙ not-false _ (c .before .before .before .if1 .left), lt-leb _ _ (c .before .if2 .taken))
-    (c .refused2 .ensures, clears (tested .before .before .before))
+    (c .refused2 .ensures, tested .before .before .before .clear .ensures)
 
 at-root-requires : tie.Need-at-root-requires
 at-root-requires c κs =
     let tested = c .before .before .before .before in
     let start = tested .before .before .before .before .before .before .before in
     let a = start .args in
-    let opened : isOpen (a .head) (a .place) ≡ true = sym (tested .is-open .ensures) ∙ not-false _ (c .before .before .before .if1 .left) in
-    let long = ap length (clears (tested .before .before .before)) ∙ cleared-length (a .work .now) (a .head .used) (start .pre .room) in (
-      open-from-one (a .head) (a .place) opened,
-      record { few-places = start .pre .few-places; room = omega (arith, start .pre .room, long); root = start .pre .root },
-    )
+    open-from-one (a .head) (a .place) (sym (tested .is-open .ensures) ∙ not-false _ (c .before .before .before .if1 .left))
 
 same-length-3 : tie.Need-same-length-3
 same-length-3 c = search needs
@@ -75,7 +59,7 @@ returns-3 c =
     let clearing = tested .before .before .before in
     let told = rooted .at-root .ensures in
     rw (sym (tested .is-open .ensures) ∙ not-false _ (rooted .before .before .before .before .if1 .left), le-leb _ _ (rooted .before .before .if2 .left))
-    (told .0, told .1 ∙ ap (rootMarked (clearing .before .before .before .before .args .head .set)) (clears clearing))
+    (told .0, told .1 ∙ ap (rootMarked (clearing .before .before .before .before .args .head .set)) (clearing .clear .ensures))
 
 pub start-spec : {M : Type 1} → statement M
 start-spec =

@@ -1,8 +1,8 @@
 -- `whole::begin` goes by what `weigh` has answered.
-use mathlib.Core.Path.{_∙_, ap, refl, subst, sym}
+use mathlib.Core.Path.{_∙_, ap, refl, sym}
 use borrow.Author.Needs.{needs}
 use Rattle.sound.specs.declared.Weighed.{Weighed}
-use Rattle.row.specs.Whole.{Weighty, begun}
+use Rattle.row.specs.Whole.{begun}
 use Rattle.row.proofs.whole.begin.Statement.{statement}
 use Rattle.row.proofs.whole.begin.Tie as tie
 
@@ -16,9 +16,7 @@ enum-told : tie.Need-enum-told
 enum-told c = search needs
 
 start-requires : tie.Need-start-requires
-start-requires c κs =
-    let start = c .before .before .before .before in
-    subst (λ (w : Weighed). Weighty w (start .args .head) (start .args .work .now)) (c .before .enum-told .given .1) (start .pre)
+start-requires c κs = search needs
 
 returns : tie.Need-returns
 returns c =

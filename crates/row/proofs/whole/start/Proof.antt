@@ -12,8 +12,8 @@ cast-used c = search needs
 cast-arity : tie.Need-cast-arity
 cast-arity c = search needs
 
-count-in-requires : tie.Need-count-in-requires
-count-in-requires c κs = search needs
+set-rows-requires : tie.Need-set-rows-requires
+set-rows-requires c κs = search needs
 
 refused-requires : tie.Need-refused-requires
 refused-requires c κs = search needs
@@ -52,7 +52,7 @@ start-spec =
     (tie.spec
     cast-used
     cast-arity
-    count-in-requires
+    set-rows-requires
     refused-requires
     returns
     refused-requires-2

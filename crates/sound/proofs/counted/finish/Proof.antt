@@ -1,8 +1,8 @@
--- `rows::finish` meets its contract: the two ways out.
+-- `counted::finish` meets its contract: the two ways out.
 use borrow.Author.Needs.{needs}
 use Rattle.sound.proofs.Counting.{counted-end, refused-end}
-use Rattle.sound.proofs.rows.finish.Statement.{statement}
-use Rattle.sound.proofs.rows.finish.Tie as tie
+use Rattle.sound.proofs.counted.finish.Statement.{statement}
+use Rattle.sound.proofs.counted.finish.Tie as tie
 
 enum-known-w : tie.Need-enum-known-w
 enum-known-w c = search needs
@@ -14,9 +14,7 @@ cast-used : tie.Need-cast-used
 cast-used c = search needs
 
 set-rows-requires : tie.Need-set-rows-requires
-set-rows-requires c κs =
-    let told = c .before .before in
-    told .before .before .before .pre .there (told .enum-told .given .1)
+set-rows-requires c κs = search needs
 
 clear-requires : tie.Need-clear-requires
 clear-requires c κs = search needs
