@@ -186,9 +186,9 @@ module _ (input : List ℕ) (tree : TreeFacts) (query : QueryFacts) (f : ReadFac
 
   module _ (t : State) (work : List ℕ) (entries : ℕ) (limit : t .limit ≡ min entries 60000) where
     -- a state with the numbers that were read comes to it
-    pub comes-first : t .going ≡ true → t .over ≡ false → t .used ≡ 0 → t .nodes ≡ tree .nodes → t .rules ≡ query .rules
+    pub comes-first : t .going ≡ true → t .over ≡ false → t .from ≡ 0 → t .count ≡ 0 → t .nodes ≡ tree .nodes → t .rules ≡ query .rules
         → t .arity ≡ query .arity → t .states ≡ query .states → t .asked ≡ workFor input → t .asked ≤ length work → Coming input t 0 0 0 work []
-    comes-first going over used nodes rules arity states asked room =
+    comes-first going over from count nodes rules arity states asked room =
         let (n, none, empty-stack) = first-node (treeRecords (recordsOf input)) refl in
         record {
           going = going;
@@ -207,8 +207,7 @@ module _ (input : List ℕ) (tree : TreeFacts) (query : QueryFacts) (f : ReadFac
           earlier = none;
           frames = subst (InWork t work) (sym empty-stack)
               (record { frames = tt; low = λ i h. absurd (omega (arith, zero-mul (width (t .arity) (t .states)))); room = room });
-          used = sym used;
-          few = omega arith;
+          used = omega arith;
         }
 
     pub first-started : {r : State} {work′ : List ℕ} → Come input t 0 work [] r work′ → Started input work entries r work′

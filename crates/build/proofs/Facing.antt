@@ -42,7 +42,7 @@ refused-face input work table r work′ (reply, early, same) = record {
 
 -- ---- begun
 module _ (input work : List ℕ) (table : List Record) (s : State) (work₁ : List ℕ) (b : Started input work (length table) s work₁) where
-  pub ready : (batch : List ℕ) → 1620 ≤ length batch → Ready input table s work₁ batch
+  pub ready : (batch : List ℕ) → 3240 ≤ length batch → Ready input table s work₁ batch
   ready batch long = record { standing = b .standing; room = long; entries = omega (arith, b .limit) }
 
   module _ (e : State) (table₂ : List Record) (work₂ : List ℕ) (d : Driven input table s work₁ table₂ e work₂) (long₁ : length work₁ ≡ length work)

@@ -26,7 +26,7 @@ pub record HeadFits (t : State) : Type 0 where
   pub arity : t .arity ≤ 4
   pub few-flags : 2 ^ t .arity ≤ 16
   pub some-flag : 1 ≤ 2 ^ t .arity
-  pub used : t .used ≤ 60000
+  pub used : t .from + t .count ≤ 60000
   pub set : t .set ≤ 60001
 
 module _ (input : List ℕ) (t : State) (all : List Record) (s : Stopped input t all) where
@@ -60,7 +60,7 @@ module _ (input : List ℕ) (t : State) (all : List Record) (s : Stopped input t
     pub built-answer : t .over ≡ false → build input (length first) entries ≡ answer (headFrom input, madeFrom input)
     built-answer e =
         let d = s .done e in
-        let used : length (madeFrom input) ≡ t .used = ap (λ z. length (z .0)) (d .made) ∙ d .used in
+        let used : length (madeFrom input) ≡ t .from + t .count = ap (λ z. length (z .0)) (d .made) ∙ d .used in
         unless-append (treePart (treeRecords (recordsOf input))) _ (headFrom input, madeFrom input) tree
         ∙ unless-append (queryPart (queryRecords (recordsOf input))) _ (headFrom input, madeFrom input) query
         ∙ rw (
@@ -71,7 +71,7 @@ module _ (input : List ℕ) (t : State) (all : List Record) (s : Stopped input t
 
     -- the head
     head-is : t .over ≡ false → {places : ℕ} {set : Set} → places ≡ 2 ^ t .arity → set ≡ setIn (t .set)
-        → _≡_ {A = Head} (record { nodes = t .nodes; arity = t .arity; places = places - 1; used = t .used; set = set }) (headFrom input)
+        → _≡_ {A = Head} (record { nodes = t .nodes; arity = t .arity; places = places - 1; used = t .from + t .count; set = set }) (headFrom input)
     head-is e w v =
         let d = s .done e in
         λ i. record {
@@ -103,7 +103,7 @@ module _ (input : List ℕ) (t : State) (all : List Record) (s : Stopped input t
       finished-refused past = rw (built-refused past) (refl, cleared work work′ rest e)
 
       pub finished-answer : t .over ≡ false → {places : ℕ} {set : Set} → places ≡ 2 ^ t .arity → set ≡ setIn (t .set)
-          → (answer (record { nodes = t .nodes; arity = t .arity; places = places - 1; used = t .used; set = set })
+          → (answer (record { nodes = t .nodes; arity = t .arity; places = places - 1; used = t .from + t .count; set = set })
           ≡ told {B = Head} (λ a. a .0) (build input (length first) entries))
           × (work′ ≡ workAfter (build input (length first) entries) (workFor input) first)
       finished-answer within w v = rw (built-answer within) (ap answer (head-is within w v), cleared work work′ rest e)

@@ -4,13 +4,13 @@
 use mathlib.Core.Bool.{Bool, _&&_, cond, false, true}
 use mathlib.Core.List.{List, [], _++_, _∷_}
 use mathlib.Core.Path.{_∙_, _≡_, ap, ap₂, refl, subst, sym}
-use Prim.Native.Nat.{_*_, _+_, _-_, _<_, _^_, _≤_, max, suc, zero, ℕ}
+use Prim.Native.Nat.{_*_, _+_, _-_, _/_, _<_, _%_, _^_, _≤_, max, suc, zero, ℕ}
 use native.Mathlib.Nat.{mul-assoc, mul-le-mul-right, zero-mul}
 use native.Mathlib.Omega.{arith}
 use borrow.Author.Tests.{eqb-false, eqb-true, ltb-false, ltb-true, ne-eqb}
 use lib.Dec.{eqb, ltb}
 use lib.ListN.{List·getD-append, drop, getD, getD-replicate, length, length-drop, length-replicate, replicate, set, take}
-use lib.Pow.{pow-mono}
+use lib.Pow.{pow-mono, pow-pos}
 use lib.Seq.{getD-append-add, getD-drop, getD-set-other, getD-set-same, getD-take, length-paste-head, length-take-le, paste}
 use Rattle.paper.specs.Building.{Slots, buildWork, isEmpty, put}
 use Rattle.paper.specs.Lists.{through}
@@ -18,8 +18,10 @@ use Rattle.paper.specs.Query.{Query}
 use Rattle.paper.specs.Stream.{StreamRecord}
 use Rattle.paper.specs.Tree.{Tree, grow, mostFrom, mostUnjoined, unjoined}
 use Rattle.laws.specs.Plain.{Set, at, empty}
-use Rattle.build.specs.Batch.{rowAt, setIn}
+use Rattle.build.specs.Batch.{setIn}
 use Rattle.build.specs.Frames.{FrameIs, FramesAre, width}
+use Rattle.build.specs.Slots.{Marked, rowAt}
+use Rattle.build.proofs.Slots.{marked-same}
 
 -- ---- sets as numbers
 pub set-of-record : (i : ℕ) → setIn (i + 2) ≡ at i
@@ -100,55 +102,41 @@ module _ (work new : List ℕ) (base size : ℕ) (fits : base + size ≤ length 
 
 -- ---- one frame
 module _ (arity states : ℕ) where
-  -- a frame in which nothing changes
-  pub frame-same : (work work′ : List ℕ) (base : ℕ) (slots : Slots Set)
-      → ((i : ℕ) → base ≤ i → i < base + width arity states → getD work′ i 0 ≡ getD work i 0)
-      → FrameIs arity states work base slots → FrameIs arity states work′ base slots
-  frame-same work work′ base slots same f q b hq hb =
-      f q b hq hb
-      ∙ ap setIn (sym (same (base + q * 2 ^ arity + b) (omega arith) (omega (arith, slot-below arity states q b hq hb))))
-
-  -- the numbers of a frame, from another base
+  -- the numbers of a frame, at the same base or at another
   pub frame-moved : (work work′ : List ℕ) (base base′ : ℕ) (slots : Slots Set)
       → ((i : ℕ) → i < width arity states → getD work′ (base′ + i) 0 ≡ getD work (base + i) 0)
       → FrameIs arity states work base slots → FrameIs arity states work′ base′ slots
-  frame-moved work work′ base base′ slots same f q b hq hb =
-      let i : ℕ = q * 2 ^ arity + b in
-      f q b hq hb
-      ∙ ap (λ (m : ℕ). setIn (getD work m 0)) (let z : base + q * 2 ^ arity + b ≡ base + i = omega arith in z)
-      ∙ ap setIn (sym (same i (slot-below arity states q b hq hb)))
-      ∙ ap (λ (m : ℕ). setIn (getD work′ m 0)) (let z : base′ + i ≡ base′ + q * 2 ^ arity + b = omega arith in z)
-
-  -- a set put in a slot
-  pub frame-put : (work : List ℕ) (base : ℕ) (slots : Slots Set) (q b x : ℕ) → base + width arity states ≤ length work
-      → q < states → b < 2 ^ arity → FrameIs arity states work base slots
-      → FrameIs arity states (set work (base + q * 2 ^ arity + b) x) base (put slots q b (setIn x))
-  frame-put work base slots q b x fits hq hb f q′ b′ hq′ hb′ = go (eqb q q′) (eqb b b′) refl refl
+  frame-moved work work′ base base′ slots same f = record {
+    sets = λ q b hq hb. f .sets q b hq hb ∙ ap (λ x. setIn (x % 65536)) (sym (row q b hq hb));
+    marked = λ q hq.
+        marked-same (2 ^ arity) work work′ (base + q * 2 ^ arity) (base′ + q * 2 ^ arity) (pow-pos arity) (λ b hb. row q b hq hb) (f .marked q hq);
+  }
     where
-      place : ℕ → ℕ → ℕ
-      place u v = base + u * 2 ^ arity + v
-
-      other : (q ≡ q′ → b ≡ b′ → ⊥) → slots q′ b′ ≡ rowAt (set work (place q b) x) (base + q′ * 2 ^ arity) b′
-      other apart =
-          f q′ b′ hq′ hb′
-          ∙ ap setIn (sym (getD-set-other work (place q b) (place q′ b′) x 0
-          (λ e. let w = one-slot arity q b q′ b′ hb hb′ (omega arith) in apart (w .0) (w .1))))
-
-      go : (c d : Bool) → eqb q q′ ≡ c → eqb b b′ ≡ d
-          → cond (c && d) (setIn x) (slots q′ b′) ≡ rowAt (set work (place q b) x) (base + q′ * 2 ^ arity) b′
-      go true true e k =
-          ap setIn (sym (getD-set-same work (place q b) x 0 (omega (arith, slot-below arity states q b hq hb))))
-          ∙ ap₂ (λ (u v : ℕ). setIn (getD (set work (place q b) x) (place u v) 0)) (eqb-true q q′ e) (eqb-true b b′ k)
-      go true false e k = other (λ u v. eqb-false b b′ k v)
-      go false d e k = other (λ u v. eqb-false q q′ e u)
+      row : (q b : ℕ) → q < states → b < 2 ^ arity → getD work′ (base′ + q * 2 ^ arity + b) 0 ≡ getD work (base + q * 2 ^ arity + b) 0
+      row q b hq hb =
+          ap (λ (m : ℕ). getD work′ m 0) (let z : base′ + q * 2 ^ arity + b ≡ base′ + (q * 2 ^ arity + b) = omega arith in z)
+          ∙ same (q * 2 ^ arity + b) (slot-below arity states q b hq hb)
+          ∙ ap (λ (m : ℕ). getD work m 0) (let z : base + (q * 2 ^ arity + b) ≡ base + q * 2 ^ arity + b = omega arith in z)
 
   -- a frame of zeros has empty slots
   pub frame-zero : (work : List ℕ) (base : ℕ) → ((i : ℕ) → i < width arity states → getD work (base + i) 0 ≡ 0)
       → FrameIs arity states work base (λ q b. empty)
-  frame-zero work base zeros q b hq hb =
-      let i : ℕ = q * 2 ^ arity + b in
-      ap setIn (sym (zeros i (slot-below arity states q b hq hb)))
-      ∙ ap (λ (m : ℕ). setIn (getD work m 0)) (let z : base + i ≡ base + q * 2 ^ arity + b = omega arith in z)
+  frame-zero work base zeros = record {
+    sets = λ q b hq hb. ap (λ x. setIn (x % 65536)) (sym (row q b hq hb));
+    marked = λ q hq. record {
+      few = omega (arith, pow-pos (2 ^ arity), ap (λ x. x / 65536) (first q hq));
+      empty = λ b hb e. ap (λ x. x % 65536) (row q b hq hb);
+    };
+  }
+    where
+      row : (q b : ℕ) → q < states → b < 2 ^ arity → getD work (base + q * 2 ^ arity + b) 0 ≡ 0
+      row q b hq hb =
+          ap (λ (m : ℕ). getD work m 0) (let z : base + q * 2 ^ arity + b ≡ base + (q * 2 ^ arity + b) = omega arith in z)
+          ∙ zeros (q * 2 ^ arity + b) (slot-below arity states q b hq hb)
+
+      first : (q : ℕ) → q < states → getD work (base + q * 2 ^ arity) 0 ≡ 0
+      first q hq =
+          ap (λ (m : ℕ). getD work m 0) (let z : base + q * 2 ^ arity ≡ base + q * 2 ^ arity + 0 = omega arith in z) ∙ row q 0 hq (pow-pos arity)
 
   -- clearing a frame
   pub frame-cleared : (work : List ℕ) (base : ℕ) → base + width arity states ≤ length work
@@ -176,7 +164,8 @@ module _ (arity states : ℕ) where
       → FramesAre arity states work stack → FramesAre arity states work′ stack
   frames-same work work′ [] same fs = tt
   frames-same work work′ (slots ∷ others) same fs = (
-    frame-same work work′ (length others * width arity states) slots (λ i a h. same i (omega arith)) (fs .0),
+    frame-moved work work′ (length others * width arity states) (length others * width arity states) slots
+        (λ i h. same (length others * width arity states + i) (omega arith)) (fs .0),
     frames-same work work′ others (λ i h. same i (omega arith)) (fs .1),
   )
 
@@ -199,20 +188,6 @@ module _ (arity states : ℕ) where
 
       zeros : List ℕ
       zeros = replicate size 0
-
-  -- a set put in a slot of the frame on top
-  pub frames-put : (work : List ℕ) (slots : Slots Set) (others : List (Slots Set)) (q b x : ℕ)
-      → length others * width arity states + width arity states ≤ length work → q < states → b < 2 ^ arity
-      → FramesAre arity states work (slots ∷ others)
-      → FramesAre arity states (set work (length others * width arity states + q * 2 ^ arity + b) x) (put slots q b (setIn x) ∷ others)
-  frames-put work slots others q b x fits hq hb fs = (
-    frame-put work base slots q b x fits hq hb (fs .0),
-    frames-same work (set work (base + q * 2 ^ arity + b) x) others
-        (λ i h. getD-set-other work (base + q * 2 ^ arity + b) i x 0 (omega arith)) (fs .1),
-  )
-    where
-      base : ℕ
-      base = length others * width arity states
 
   -- a branch's frame, made above the last two, is copied down to the older one's place
   pub frames-joined : (work : List ℕ) (slots last older : Slots Set) (others : List (Slots Set))
@@ -240,25 +215,44 @@ module _ (arity states : ℕ) where
   pub frame-row : (work work′ : List ℕ) (base : ℕ) (slots slots′ : Slots Set) (q : ℕ)
       → ((i : ℕ) → i < base + q * 2 ^ arity → getD work′ i 0 ≡ getD work i 0)
       → ((i : ℕ) → base + q * 2 ^ arity + 2 ^ arity ≤ i → getD work′ i 0 ≡ getD work i 0)
-      → ((b : ℕ) → b < 2 ^ arity → slots′ q b ≡ rowAt work′ (base + q * 2 ^ arity) b)
+      → ((b : ℕ) → b < 2 ^ arity → slots′ q b ≡ rowAt work′ (base + q * 2 ^ arity) b) → Marked (2 ^ arity) work′ (base + q * 2 ^ arity)
       → ((q′ b : ℕ) → (q′ ≡ q → ⊥) → slots′ q′ b ≡ slots q′ b)
       → FrameIs arity states work base slots → FrameIs arity states work′ base slots′
-  frame-row work work′ base slots slots′ q below above row others f q′ b hq hb = go (ltb q′ q) (ltb q q′) refl refl
+  frame-row work work′ base slots slots′ q below above row marked others f = record {
+    sets = λ q′ b hq hb. go-sets q′ b hq hb (ltb q′ q) (ltb q q′) refl refl;
+    marked = λ q′ hq. go-marked q′ hq (ltb q′ q) (ltb q q′) refl refl;
+  }
     where
-      same : (q′ ≡ q → ⊥) → getD work′ (base + q′ * 2 ^ arity + b) 0 ≡ getD work (base + q′ * 2 ^ arity + b) 0
-          → slots′ q′ b ≡ rowAt work′ (base + q′ * 2 ^ arity) b
-      same apart e = others q′ b apart ∙ f q′ b hq hb ∙ ap setIn (sym e)
+      before : (q′ b : ℕ) → q′ < q → b < 2 ^ arity → getD work′ (base + q′ * 2 ^ arity + b) 0 ≡ getD work (base + q′ * 2 ^ arity + b) 0
+      before q′ b l hb = below (base + q′ * 2 ^ arity + b) (omega (arith, parts-apart (2 ^ arity) q′ q l))
 
-      go : (c d : Bool) → ltb q′ q ≡ c → ltb q q′ ≡ d → slots′ q′ b ≡ rowAt work′ (base + q′ * 2 ^ arity) b
-      go true d h k =
-          let before : q′ < q = ltb-true q′ q h in
-          same (λ e. omega arith) (below (base + q′ * 2 ^ arity + b) (omega (arith, parts-apart (2 ^ arity) q′ q before)))
-      go false true h k =
-          let behind : q < q′ = ltb-true q q′ k in
-          same (λ e. omega arith) (above (base + q′ * 2 ^ arity + b) (omega (arith, parts-apart (2 ^ arity) q q′ behind)))
-      go false false h k =
+      behind : (q′ b : ℕ) → q < q′ → b < 2 ^ arity → getD work′ (base + q′ * 2 ^ arity + b) 0 ≡ getD work (base + q′ * 2 ^ arity + b) 0
+      behind q′ b l hb = above (base + q′ * 2 ^ arity + b) (omega (arith, parts-apart (2 ^ arity) q q′ l))
+
+      other-sets : (q′ b : ℕ) → q′ < states → b < 2 ^ arity → (q′ ≡ q → ⊥)
+          → getD work′ (base + q′ * 2 ^ arity + b) 0 ≡ getD work (base + q′ * 2 ^ arity + b) 0 → slots′ q′ b ≡ rowAt work′ (base + q′ * 2 ^ arity) b
+      other-sets q′ b hq hb apart e = others q′ b apart ∙ f .sets q′ b hq hb ∙ ap (λ x. setIn (x % 65536)) (sym e)
+
+      other-marked : (q′ : ℕ) → q′ < states
+          → ((b : ℕ) → b < 2 ^ arity → getD work′ (base + q′ * 2 ^ arity + b) 0 ≡ getD work (base + q′ * 2 ^ arity + b) 0)
+          → Marked (2 ^ arity) work′ (base + q′ * 2 ^ arity)
+      other-marked q′ hq same =
+          marked-same (2 ^ arity) work work′ (base + q′ * 2 ^ arity) (base + q′ * 2 ^ arity) (pow-pos arity) same (f .marked q′ hq)
+
+      go-sets : (q′ b : ℕ) → q′ < states → b < 2 ^ arity → (c d : Bool) → ltb q′ q ≡ c → ltb q q′ ≡ d
+          → slots′ q′ b ≡ rowAt work′ (base + q′ * 2 ^ arity) b
+      go-sets q′ b hq hb true d h k = let l = ltb-true q′ q h in other-sets q′ b hq hb (λ e. omega arith) (before q′ b l hb)
+      go-sets q′ b hq hb false true h k = let l = ltb-true q q′ k in other-sets q′ b hq hb (λ e. omega arith) (behind q′ b l hb)
+      go-sets q′ b hq hb false false h k =
           let there : q ≡ q′ = omega (arith, ltb-false q′ q h, ltb-false q q′ k) in
           subst (λ (x : ℕ). slots′ x b ≡ rowAt work′ (base + x * 2 ^ arity) b) there (row b hb)
+
+      go-marked : (q′ : ℕ) → q′ < states → (c d : Bool) → ltb q′ q ≡ c → ltb q q′ ≡ d → Marked (2 ^ arity) work′ (base + q′ * 2 ^ arity)
+      go-marked q′ hq true d h k = other-marked q′ hq (λ b hb. before q′ b (ltb-true q′ q h) hb)
+      go-marked q′ hq false true h k = other-marked q′ hq (λ b hb. behind q′ b (ltb-true q q′ k) hb)
+      go-marked q′ hq false false h k =
+          let there : q ≡ q′ = omega (arith, ltb-false q′ q h, ltb-false q q′ k) in
+          subst (λ (x : ℕ). Marked (2 ^ arity) work′ (base + x * 2 ^ arity)) there marked
 
   -- the frame of slots further down the stack
   pub frame-down : (work : List ℕ) (stack : List (Slots Set)) (i : ℕ) (none : Slots Set) → i < length stack → FramesAre arity states work stack

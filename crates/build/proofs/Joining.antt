@@ -1,7 +1,7 @@
 -- The end of a node: its frame becomes that of a subtree. A leaf's stays where it is, a branch's is copied down over the older child's.
 use mathlib.Core.List.{List, [], _∷_}
 use mathlib.Core.Path.{_∙_, _≡_, ap, refl, subst, sym}
-use Prim.Native.Nat.{_*_, _+_, _-_, _<_, _≤_, ℕ}
+use Prim.Native.Nat.{_*_, _+_, _-_, _<_, _%_, _≤_, ℕ}
 use native.Mathlib.Nat.{suc-mul}
 use native.Mathlib.Omega.{arith}
 use borrow.Author.Tests.{eq-eqb, ne-eqb}
@@ -11,22 +11,23 @@ use Rattle.paper.specs.Building.{Slots}
 use Rattle.build.specs.Batch.{Record, Set}
 use Rattle.build.specs.Frames.{FramesAre, width}
 use Rattle.build.specs.Coming.{Joined}
+use Rattle.build.specs.Slots.{slotAt}
 use Rattle.build.specs.Standing.{InWork, Standing, State, stackLeft}
 use Rattle.build.proofs.Frames.{frames-joined, parts-apart, paste-after}
 use Rattle.build.proofs.Pasting.{paste-low, same-behind}
 use Rattle.build.proofs.Present.{frame-room, kind-here, two-frames}
 
--- a branch's frame copied down, of any stack that has two subtrees to join: the frames, and that their numbers stay low
-copied-down : (arity states used : ℕ) (work : List ℕ) (slots : Slots Set) (stack : List (Slots Set)) (base : ℕ) → base + 2 ≡ length stack
+-- a branch's frame copied down, of any stack that has two subtrees to join: the frames, and that their sets stay low
+copied-down : (arity states bound : ℕ) (work : List ℕ) (slots : Slots Set) (stack : List (Slots Set)) (base : ℕ) → base + 2 ≡ length stack
     → length stack * width arity states + width arity states ≤ length work
-    → ((i : ℕ) → i < length (slots ∷ stack) * width arity states → getD work i 0 ≤ used + 1)
+    → ((i : ℕ) → i < length (slots ∷ stack) * width arity states → slotAt work i ≤ bound)
     → FramesAre arity states work (slots ∷ stack)
     → let work′ : List ℕ = paste work (base * width arity states) (drop (length stack * width arity states) work) (width arity states) in
     FramesAre arity states work′ (slots ∷ drop 2 stack)
-    × ((i : ℕ) → i < length (slots ∷ drop 2 stack) * width arity states → getD work′ i 0 ≤ used + 1)
-copied-down arity states used work slots [] base two fits low fs = absurd (omega arith)
-copied-down arity states used work slots (last ∷ []) base two fits low fs = absurd (omega arith)
-copied-down arity states used work slots (last ∷ older ∷ others) base two fits low fs =
+    × ((i : ℕ) → i < length (slots ∷ drop 2 stack) * width arity states → slotAt work′ i ≤ bound)
+copied-down arity states bound work slots [] base two fits low fs = absurd (omega arith)
+copied-down arity states bound work slots (last ∷ []) base two fits low fs = absurd (omega arith)
+copied-down arity states bound work slots (last ∷ older ∷ others) base two fits low fs =
     subst Copied (let e : length others ≡ base = omega arith in e) (frames-joined arity states work slots last older others fits fs, copied-low)
   where
     size : ℕ
@@ -38,16 +39,16 @@ copied-down arity states used work slots (last ∷ older ∷ others) base two fi
     Copied : ℕ → Type 0
     Copied n =
         let work′ : List ℕ = paste work (n * size) (drop top work) size in
-        FramesAre arity states work′ (slots ∷ others) × ((i : ℕ) → i < length (slots ∷ others) * size → getD work′ i 0 ≤ used + 1)
+        FramesAre arity states work′ (slots ∷ others) × ((i : ℕ) → i < length (slots ∷ others) * size → slotAt work′ i ≤ bound)
 
     higher : length others * size + size ≤ top
     higher = parts-apart size (length others) (length (last ∷ older ∷ others)) (omega arith)
 
-    copied-low : (i : ℕ) → i < length (slots ∷ others) * size → getD (paste work (length others * size) (drop top work) size) i 0 ≤ used + 1
+    copied-low : (i : ℕ) → i < length (slots ∷ others) * size → slotAt (paste work (length others * size) (drop top work) size) i ≤ bound
     copied-low i h =
-        paste-low work (drop top work) (length others * size) size (used + 1) (omega (arith, higher)) (omega (arith, length-drop top work))
+        paste-low work (drop top work) (length others * size) size bound (omega (arith, higher)) (omega (arith, length-drop top work))
         (λ j l. low j (omega (arith, higher, suc-mul (length (last ∷ older ∷ others)) size)))
-        (λ j l. omega (arith, getD-drop top work j 0, low (top + j) (omega (arith, suc-mul (length (last ∷ older ∷ others)) size))))
+        (λ j l. omega (arith, ap (λ x. x % 65536) (getD-drop top work j 0), low (top + j) (omega (arith, suc-mul (length (last ∷ older ∷ others)) size))))
         i (omega (arith, suc-mul (length others) size))
 
 module _ (input : List ℕ) (t : State) (work : List ℕ) (made : List Record) (s : Standing input t work made) where
@@ -130,7 +131,7 @@ module _ (input : List ℕ) (t : State) (work : List ℕ) (made : List Record) (
       long = length-paste work (base * size) (drop (length (s .node .stack) * size) work) size within enough
 
       down : FramesAre (t .arity) (t .states) joined (s .slots ∷ drop 2 (s .node .stack))
-          × ((i : ℕ) → i < length (s .slots ∷ drop 2 (s .node .stack)) * size → getD joined i 0 ≤ t .used + 1)
+          × ((i : ℕ) → i < length (s .slots ∷ drop 2 (s .node .stack)) * size → slotAt joined i ≤ t .from + t .count + 1)
       down =
-          copied-down (t .arity) (t .states) (t .used) work (s .slots) (s .node .stack) base (omega (arith, two, s .node .high))
+          copied-down (t .arity) (t .states) (t .from + t .count + 1) work (s .slots) (s .node .stack) base (omega (arith, two, s .node .high))
           (omega (arith, top, room, s .frames .room)) (s .frames .low) (s .frames .frames)

@@ -1,4 +1,6 @@
 pub mod Written
+pub mod Marks
+pub mod Slots
 pub mod Making
 pub mod Uniting
 pub mod Running
@@ -16,12 +18,15 @@ pub mod Present
 pub mod NodeRules
 pub mod NodeEnd
 pub mod Limits
+pub mod OwnRow
 pub mod LeafTurn
 pub mod BranchTurn
+pub mod RuleLoop
 pub mod Joining
 pub mod NextNode
 pub mod Roots
 pub mod Stopping
+pub mod TurnLoop
 pub mod Beginning
 pub mod Finishing
 pub mod Storing

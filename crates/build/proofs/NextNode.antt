@@ -1,8 +1,8 @@
 -- The start of a node: its frame is cleared and its first rule is looked for. Then the step from a node to the next.
 use mathlib.Core.Bool.{true≢false}
-use mathlib.Core.List.{List, [], _++_, _∷_, append-assoc, append-nil}
+use mathlib.Core.List.{List, [], _++_, _∷_, append-assoc}
 use mathlib.Core.Path.{_∙_, _≡_, ap, refl, subst, subst₂, sym}
-use Prim.Native.Nat.{_*_, _+_, _-_, _<_, _≤_, suc, zero, ℕ}
+use Prim.Native.Nat.{_*_, _+_, _-_, _<_, _%_, _≤_, suc, zero, ℕ}
 use native.Mathlib.Nat.{suc-mul}
 use native.Mathlib.Omega.{arith}
 use lib.ListN.{drop, getD, getD-replicate, length, length-append, length-drop, length-replicate, replicate}
@@ -12,6 +12,7 @@ use Rattle.paper.specs.Stream.{StreamRecord, bodyLength, number, recordsOf, rec
 use Rattle.stream.specs.Positions.{NextRule}
 use Rattle.build.specs.Batch.{Record, recordsIn}
 use Rattle.build.specs.Frames.{width}
+use Rattle.build.specs.Slots.{slotAt}
 use Rattle.build.specs.Coming.{Come, Coming, Joined}
 use Rattle.build.specs.Standing.{AtRule, Constants, Standing, State, Stepped, noSlots, stackLeft}
 use Rattle.build.specs.States.{started}
@@ -62,10 +63,10 @@ module _ (input : List ℕ) (t : State) (node at top : ℕ) (work : List ℕ) (m
     long : length cleared ≡ length work
     long = length-paste work base (replicate size 0) size fits enough
 
-    low : (i : ℕ) → i < length (noSlots ∷ s .here .stack) * width (t .arity) (t .states) → getD cleared i 0 ≤ t .used + 1
+    low : (i : ℕ) → i < length (noSlots ∷ s .here .stack) * width (t .arity) (t .states) → slotAt cleared i ≤ t .from + t .count + 1
     low i h =
-        paste-low work (replicate size 0) base size (t .used + 1) fits enough (s .frames .low)
-        (λ j l. omega (arith, getD-replicate {A = ℕ} size j 0 0 l)) i (omega (arith, suc-mul (length (s .here .stack)) size))
+        paste-low work (replicate size 0) base size (t .from + t .count + 1) fits enough (s .frames .low)
+        (λ j l. omega (arith, ap (λ x. x % 65536) (getD-replicate {A = ℕ} size j 0 0 l))) i (omega (arith, suc-mul (length (s .here .stack)) size))
 
     come : Come input t node work made (started t node at top rule) cleared
     come = record {
@@ -84,7 +85,6 @@ module _ (input : List ℕ) (t : State) (node at top : ℕ) (work : List ℕ) (m
           room = omega (arith, long, s .frames .room);
         };
         used = s .used;
-        few = s .few;
       };
       limit = refl;
       asked = refl;
@@ -145,7 +145,6 @@ module _ (input : List ℕ) (t : State) (work : List ℕ) (made : List Record) (
     earlier = refl;
     frames = j .frames;
     used = s .used;
-    few = s .few;
   }
 
   pub comes-next : {next top : ℕ} {work₁ : List ℕ} → next ≡ t .at + 1 + bodyLength (getD input (t .at) 0) → Joined input t work made s top work₁
@@ -156,15 +155,16 @@ module _ (input : List ℕ) (t : State) (work : List ℕ) (made : List Record) (
 
   -- and so the turn is done
   pub node-stepped : {top : ℕ} {work₁ work₂ : List ℕ} {r : State} → Joined input t work made s top work₁
-      → Come input t (t .node + 1) work₁ made r work₂ → (batch : List ℕ) → Stepped input t work made r work₂ batch
-  node-stepped {work₂ = work₂} {r} j c batch = record {
+      → Come input t (t .node + 1) work₁ made r work₂ → (batch : List ℕ) (base : List Record) → made ≡ base ++ recordsIn (t .count) batch
+      → length base ≡ t .from → t .from + t .count ≤ t .limit → t .count ≤ 648 → Stepped input t work base r work₂ batch
+  node-stepped {work₂ = work₂} {r} j c batch base all start fits count = record {
     limit = c .limit;
     asked = c .asked;
     rest = c .rest ∙ j .rest;
-    from = c .from ∙ sym (s .used);
+    from = c .from ∙ sym start;
     count = omega (arith, c .count);
-    fits = omega (arith, c .from, c .count, c .limit, s .few);
-    goes = λ e. subst (Standing input r work₂) (sym (ap (λ n. made ++ recordsIn n batch) (c .count) ∙ append-nil made)) (c .standing);
+    fits = omega (arith, c .from, c .count, c .limit);
+    goes = λ e. subst (Standing input r work₂) (all ∙ ap (λ n. base ++ recordsIn n batch) (sym (c .count))) (c .standing);
     stops = λ e. absurd (true≢false (sym (c .standing .going) ∙ e));
     falls = rw (s .going, c .standing .going) (omega (arith, ap (λ n. n * suc (length input)) nodes, suc-mul left (suc (length input)), few));
   }

@@ -8,7 +8,7 @@ use native.Mathlib.Nat.{suc-mul}
 use native.Mathlib.Numerals.{add-one}
 use native.Mathlib.Omega.{arith}
 use borrow.Author.Tests.{not-false, not-true}
-use lib.ListN.{drop, getD, length}
+use lib.ListN.{drop, length}
 use lib.Pow.{ones-lt, pow-pos}
 use Rattle.paper.specs.Building.{Slots, acceptStep, allPlaces, recordSets, unionRecord}
 use Rattle.paper.specs.Lists.{has}
@@ -19,6 +19,7 @@ use Rattle.build.specs.Batch.{Made, Makes, Record, Set, empty, recordsIn
 use Rattle.build.specs.Branches.{rowFrom}
 use Rattle.build.specs.Frames.{width}
 use Rattle.build.specs.Roots.{UnitedTo, UnitesNext, unitedTo}
+use Rattle.build.specs.Slots.{slotAt}
 use Rattle.build.specs.Standing.{Constants, Standing, State}
 use Rattle.build.proofs.Accepting.{accept-here, accept-next, accept-skip}
 use Rattle.build.proofs.Frames.{flags-at-most, slot-below}
@@ -28,7 +29,7 @@ use Rattle.build.proofs.ReadInput.{accepting-are}
 
 -- ---- one state after the other
 module _ (input : List ℕ) (t : State) (work batch : List ℕ) where
-  pub united-none : UnitedTo input t work 0 batch (record { count = 0; set = 0 }) batch
+  pub united-none : UnitedTo input t work 0 batch (record { count = t .count; set = 0 }) batch
   united-none slots f = record { makes = λ base e. refl; more = omega arith; few = omega arith; at-hand = omega arith }
 
   module _ (k : Constants input t) (q : ℕ) (found : Bool) (e : found ≡ has (acceptingOf (recordsOf (drop (t .rules) input))) q)
@@ -49,8 +50,8 @@ module _ (input : List ℕ) (t : State) (work batch : List ℕ) where
         let h = done slots f in
         record {
           makes = λ base w.
-              next slots (base ++ recordsIn 0 batch)
-              ∙ accept-skip recordSets (queryIn input) (t .node) slots (unitedTo input t slots q (base ++ recordsIn 0 batch)) q (accepts ∙ none)
+              next slots (base ++ recordsIn (t .count) batch)
+              ∙ accept-skip recordSets (queryIn input) (t .node) slots (unitedTo input t slots q (base ++ recordsIn (t .count) batch)) q (accepts ∙ none)
               ∙ h .makes base w;
           more = h .more;
           few = omega (arith, h .few);
@@ -58,14 +59,14 @@ module _ (input : List ℕ) (t : State) (work batch : List ℕ) where
         }
 
     -- an accepting state's slot is united on the right
-    united-more : found ≡ true → q < t .states → {places slot : ℕ} {m′ : Made} {batch₂ : List ℕ} → places ≡ 2 ^ t .arity - 1
-        → slot ≡ rowFrom t (t .top) q + places
-        → Makes (unionRecord (t .node) places (setIn (m .set)) (setIn (getD work slot 0))) 1 (t .used) (m .count) batch₁ m′ batch₂
+    united-more : found ≡ true → q < t .states → {places slot set : ℕ} {m′ : Made} {batch₂ : List ℕ} → places ≡ 2 ^ t .arity - 1
+        → slot ≡ rowFrom t (t .top) q + places → set ≡ slotAt work slot
+        → Makes (unionRecord (t .node) places (setIn (m .set)) (setIn set)) 1 (t .from) (m .count) batch₁ m′ batch₂
         → UnitedTo input t work (q + 1) batch m′ batch₂
-    united-more one hq {places} {slot} {m′} {batch₂} e₁ e₂ u slots f = record {
+    united-more one hq {places} {slot} {set} {m′} {batch₂} e₁ e₂ e₃ u slots f = record {
       makes = λ base w.
-          next slots (base ++ recordsIn 0 batch)
-          ∙ accept-here recordSets (queryIn input) (t .node) slots (unitedTo input t slots q (base ++ recordsIn 0 batch)) q (accepts ∙ one)
+          next slots (base ++ recordsIn (t .count) batch)
+          ∙ accept-here recordSets (queryIn input) (t .node) slots (unitedTo input t slots q (base ++ recordsIn (t .count) batch)) q (accepts ∙ one)
           ∙ united .makes base w;
       more = united .more;
       few = united .few;
@@ -78,39 +79,38 @@ module _ (input : List ℕ) (t : State) (work batch : List ℕ) where
         all-places : places ≡ all
         all-places = e₁ ∙ ap (λ a. 2 ^ a - 1) (k .arity)
 
-        right : setIn (getD work slot 0) ≡ slots q all
+        right : setIn set ≡ slots q all
         right =
-            ap (λ n. setIn (getD work n 0)) (e₂ ∙ ap (λ b. rowFrom t (t .top) q + b) all-places)
-            ∙ sym (f q all hq (omega (arith, all-places, e₁, ones-lt (t .arity))))
+            ap setIn e₃
+            ∙ ap (λ n. setIn (slotAt work n)) (e₂ ∙ ap (λ b. rowFrom t (t .top) q + b) all-places)
+            ∙ sym (f .sets q all hq (omega (arith, all-places, e₁, ones-lt (t .arity))))
 
         united : Makes (λ table. unionRecord (t .node) all ((unitedTo input t slots q table) .1) (slots q all) ((unitedTo input t slots q table) .0))
-            (q + 1) (t .used) 0 batch m′ batch₂
+            (q + 1) (t .from) (t .count) batch m′ batch₂
         united =
-            then-made (t .used) 0 batch q 1 (unitedTo input t slots q) (λ left. unionRecord (t .node) all left (slots q all)) m m′ batch₁ batch₂
+            then-made (t .from) (t .count) batch q 1 (unitedTo input t slots q) (λ left. unionRecord (t .node) all left (slots q all)) m m′ batch₁ batch₂
             (done slots f)
-            (subst₂ (λ b x. Makes (unionRecord (t .node) b (setIn (m .set)) x) 1 (t .used) (m .count) batch₁ m′ batch₂) all-places right u)
+            (subst₂ (λ b x. Makes (unionRecord (t .node) b (setIn (m .set)) x) 1 (t .from) (m .count) batch₁ m′ batch₂) all-places right u)
 
 -- ---- what the code asks of the numbers, and has done
 pub record RootReady (input : List ℕ) (t : State) (work : List ℕ) (q : ℕ) : Type 0 where
   pub node : NodeReady input t work
-  pub records : t .used ≤ 60000
   pub few-flags : 2 ^ t .arity ≤ 16
   pub some-flag : 1 ≤ 2 ^ t .arity
   pub slot : {row size : ℕ} → row ≡ rowFrom t (t .top) q → size ≡ 2 ^ t .arity
-      → (row + (size - 1) < length work) × (getD work (row + (size - 1)) 0 ≤ t .used + 1)
+      → (row + (size - 1) < length work) × (slotAt work (row + (size - 1)) ≤ t .from + t .count + 1)
 
 pub root-ready : (input : List ℕ) (t : State) (work : List ℕ) (made : List Record) → Standing input t work made → (q : ℕ) → q < t .states
     → RootReady input t work q
 root-ready input t work made s q hq = record {
   node = node-ready input t work (s .constants) (s .node) (s .frames .room);
-  records = omega (arith, s .few, s .constants .limit);
   few-flags = flags-at-most (t .arity) (small-arity-here input t (s .constants) (s .node));
   some-flag = pow-pos (t .arity);
   slot = λ {row} {size} e₁ e₂.
-      subst₂ (λ r b. (r + (b - 1) < length work) × (getD work (r + (b - 1)) 0 ≤ t .used + 1)) (sym e₁) (sym e₂) at-places;
+      subst₂ (λ r b. (r + (b - 1) < length work) × (slotAt work (r + (b - 1)) ≤ t .from + t .count + 1)) (sym e₁) (sym e₂) at-places;
 }
   where
-    at-places : (rowFrom t (t .top) q + (2 ^ t .arity - 1) < length work) × (getD work (rowFrom t (t .top) q + (2 ^ t .arity - 1)) 0 ≤ t .used + 1)
+    at-places : (rowFrom t (t .top) q + (2 ^ t .arity - 1) < length work) × (slotAt work (rowFrom t (t .top) q + (2 ^ t .arity - 1)) ≤ t .from + t .count + 1)
     at-places =
         let size : ℕ = width (t .arity) (t .states) in
         let b : ℕ = 2 ^ t .arity - 1 in
@@ -120,23 +120,25 @@ root-ready input t work made s q hq = record {
           s .frames .low (rowFrom t (t .top) q + b) (omega (arith, suc-mul (length (s .node .stack)) size)),
         )
 
-module _ (input : List ℕ) (t : State) (work : List ℕ) (k : Constants input t) (q : ℕ) (m : Made) (count : m .count ≤ q)
-    (at-hand : m .set ≤ t .used + m .count + 1) (batch : List ℕ) (found : Bool)
+module _ (input : List ℕ) (t : State) (work : List ℕ) (k : Constants input t) (q : ℕ) (m : Made) (more : t .count ≤ m .count)
+    (few : m .count ≤ t .count + q)    (at-hand : m .set ≤ t .from + m .count + 1) (batch : List ℕ) (found : Bool)
     (e : found ≡ has (acceptingOf (recordsOf (drop (t .rules) input))) q) where
   pub next-skipped : not found ≡ true → UnitesNext input t work q m batch m batch
   next-skipped none = record {
-    count = omega arith;
+    more = more;
+    few = omega arith;
     at-hand = at-hand;
     unites = λ first done. united-skip input t work first k q found e m batch done (not-true found none);
   }
 
-  pub next-united : not found ≡ false → q < t .states → {row size : ℕ} {m′ : Made} {batch′ : List ℕ} → row ≡ rowFrom t (t .top) q
-      → size ≡ 2 ^ t .arity
-      → Makes (unionRecord (t .node) (size - 1) (setIn (m .set)) (setIn (getD work (row + (size - 1)) 0))) 1 (t .used) (m .count) batch m′ batch′
+  pub next-united : not found ≡ false → q < t .states → {row size set : ℕ} {m′ : Made} {batch′ : List ℕ} → row ≡ rowFrom t (t .top) q
+      → size ≡ 2 ^ t .arity → set ≡ slotAt work (row + (size - 1))
+      → Makes (unionRecord (t .node) (size - 1) (setIn (m .set)) (setIn set)) 1 (t .from) (m .count) batch m′ batch′
       → UnitesNext input t work q m batch m′ batch′
-  next-united one hq {row} {size} e₁ e₂ u = record {
-    count = omega (arith, u .few);
+  next-united one hq {row} {size} e₁ e₂ e₃ u = record {
+    more = omega (arith, u .more);
+    few = omega (arith, u .few);
     at-hand = u .at-hand;
     unites = λ first done.
-        united-more input t work first k q found e m batch done (not-false found one) hq (ap (λ b. b - 1) e₂) (ap (λ r. r + (size - 1)) e₁) u;
+        united-more input t work first k q found e m batch done (not-false found one) hq (ap (λ b. b - 1) e₂) (ap (λ r. r + (size - 1)) e₁) e₃ u;
   }

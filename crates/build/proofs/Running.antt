@@ -3,19 +3,21 @@
 use mathlib.Core.Bool.{Bool, _&&_, _||_, cond, false, true}
 use mathlib.Core.List.{List, [], _∷_, _++_, append-assoc, append-nil}
 use mathlib.Core.Path.{_∙_, _≡_, ap, refl, subst, sym}
-use Prim.Native.Nat.{_*_, _+_, _-_, _<_, _≤_, suc, zero, ℕ}
+use Prim.Native.Nat.{_*_, _+_, _-_, _<_, _%_, _≤_, suc, zero, ℕ}
 use native.Mathlib.Numerals.{add-one}
 use native.Mathlib.Omega.{arith}
 use borrow.Author.Tests.{eq-eqb, eqb-false, eqb-true, ne-eqb}
 use lib.Bits.{bitAnd}
 use lib.Dec.{eqb}
-use lib.ListN.{getD, length, length-append}
+use lib.ListN.{length, length-append}
 use Rattle.paper.specs.Building.{Slots, branchStep, isEmpty, put, recordSets, triple, unite}
 use Rattle.paper.specs.Lists.{each, through, upTo}
 use Rattle.paper.specs.Sound.{apart}
 use Rattle.laws.proofs.Lists.{each-none, or-right, through-upTo}
-use Rattle.build.specs.Batch.{Record, Set, empty, recordsIn, rowAt, setIn}
+use Rattle.build.specs.Batch.{Record, Set, empty, recordsIn, setIn}
 use Rattle.build.specs.Rules.{Branch, Low, OneRow, OneSlot, Row, Runs, Stands, Unites, flagsAt, pairAt, splitAt, splitsRun}
+use Rattle.build.specs.Slots.{Marked, rowAt, slotAt}
+use Rattle.build.proofs.Slots.{marked-put, marked-same}
 
 -- ---- lists for each number of a loop
 module _ {A B : Type 0} (f : A → List B) where
@@ -65,26 +67,25 @@ module _ (own b₁ n : ℕ) where
       ap (λ c. each (upTo n) (λ b₂. cond (c && apart (own + b₁) b₂) ((b₁, b₂) ∷ []) [])) (ne-eqb (bitAnd own b₁) 0 f) ∙ each-none (upTo n)
 
 -- ---- rows of work
-module _ (rule : Branch) (most k : ℕ) (W : List ℕ) (count : ℕ) (W′ : List ℕ) (o : OneRow rule most k W count W′) where
-  -- a row before the one that is written stays
-  pub row-stays : (slots : Slots Set) (q from : ℕ) → from + rule .size ≤ rule .to → Row slots q (rule .size) W from → Row slots q (rule .size) W′ from
-  row-stays slots q from h r b l = r b l ∙ ap setIn (sym (o .below (from + b) (omega arith)))
+-- a row before the one that is written stays
+module _ {to size used most k : ℕ} {W : List ℕ} {count : ℕ} {W′ : List ℕ} (o : OneRow to size used most k W count W′) (from : ℕ)
+    (before : from + size ≤ to) where
+  pub same-set : (b : ℕ) → b < size → slotAt W′ (from + b) ≡ slotAt W (from + b)
+  same-set b l = ap (λ x. x % 65536) (o .below (from + b) (omega arith))
 
-  pub low-stays : (n from : ℕ) → from + rule .size ≤ rule .to → Low n (rule .size) W from → Low n (rule .size) W′ from
-  low-stays n from h r b l = omega (arith, r b l, o .below (from + b) (omega arith))
+  pub row-stays : (slots : Slots Set) (q : ℕ) → Row slots q size W from → Row slots q size W′ from
+  row-stays slots q r b l = r b l ∙ ap setIn (sym (same-set b l))
+
+  pub low-stays : Low (used + k + 1) size W from → Low (used + count + 1) size W′ from
+  low-stays r b l = omega (arith, r b l, same-set b l, o .more)
+
+  pub marked-stays : 0 < size → Marked size W from → Marked size W′ from
+  marked-stays some = marked-same size W W′ from from some (λ b l. o .below (from + b) (omega arith))
 
 -- ---- one slot of a row
-module _ (to flag most used k : ℕ) (W : List ℕ) (count : ℕ) (W′ : List ℕ) (o : OneSlot (to + flag) most used k W count W′) where
-  other-stays : (b : ℕ) → eqb flag b ≡ false → getD W′ (to + b) 0 ≡ getD W (to + b) 0
-  other-stays b e = o .others (to + b) (λ w. eqb-false flag b e (omega arith))
-
-  -- the numbers of the row are those of sets at hand
-  slot-low : (size : ℕ) → Low (used + k + 1) size W to → Low (used + count + 1) size W′ to
-  slot-low size low b l = go (eqb flag b) refl
-    where
-      go : (c : Bool) → eqb flag b ≡ c → getD W′ (to + b) 0 ≤ used + count + 1
-      go true e = omega (arith, o .at-hand, ap (λ n. getD W′ (to + n) 0) (eqb-true flag b e))
-      go false e = omega (arith, o .more, low b l, other-stays b e)
+module _ {to flag most used k : ℕ} {W : List ℕ} {count : ℕ} {W′ : List ℕ} (o : OneSlot to flag most used k W count W′) where
+  other-stays : (b : ℕ) → eqb flag b ≡ false → slotAt W′ (to + b) ≡ slotAt W (to + b)
+  other-stays b e = o .puts .others (to + b) (λ w. eqb-false flag b e (omega arith))
 
   -- a set put into its slot stands in the row
   pub row-put : (size t : ℕ) (slots : Slots Set) → Row slots t size W to → Row (put slots t flag (rowAt W′ to flag)) t size W′ to
@@ -94,16 +95,19 @@ module _ (to flag most used k : ℕ) (W : List ℕ) (count : ℕ) (W′ : List �
       go true e = ap (rowAt W′ to) (eqb-true flag b e)
       go false e = r b l ∙ ap setIn (sym (other-stays b e))
 
-slot-row : (rule : Branch) (flag most k : ℕ) (W : List ℕ) (count : ℕ) (W′ : List ℕ) → OneSlot (rule .to + flag) most (rule .used) k W count W′
-    → flag < rule .size → Low (rule .used + k + 1) (rule .size) W (rule .to) → OneRow rule most k W count W′
-slot-row rule flag most k W count W′ o h low =
-    record {
-      more = o .more;
-      few = o .few;
-      below = λ i l. o .others i (λ e. omega arith);
-      above = λ i l. o .others i (λ e. omega arith);
-      low = slot-low (rule .to) flag most (rule .used) k W count W′ o (rule .size) low;
-    }
+  pub slot-row : (size : ℕ) → flag < size → Low (used + k + 1) size W to → OneRow to size used most k W count W′
+  slot-row size h low = record {
+    more = o .more;
+    few = o .few;
+    below = λ i l. o .puts .apart i (λ e. omega arith) (λ e. omega arith);
+    above = λ i l. o .puts .apart i (λ e. omega arith) (λ e. omega arith);
+    low = λ b l. go b l (eqb flag b) refl;
+    marked = marked-put size to flag (o .set) W W′ h (o .puts);
+  }
+    where
+      go : (b : ℕ) → b < size → (c : Bool) → eqb flag b ≡ c → slotAt W′ (to + b) ≤ used + count + 1
+      go b l true e = omega (arith, o .at-hand, o .puts .there, ap (λ n. slotAt W′ (to + n)) (eqb-true flag b e))
+      go b l false e = omega (arith, o .more, low b l, other-stays b e)
 
 -- ---- the splits of the paper
 full : (n : ℕ) → (n ≡ 0 → ⊥) → isEmpty (setIn n) ≡ false
@@ -165,7 +169,7 @@ module _ {rule : Branch} where
   idle flags k B W low same =
       record {
         runs = λ base p q t lefts rights z e rl rr st. subst (λ y. Stands base t rule y k B W) (sym (same p q t lefts rights z rl rr)) st;
-        row = record { more = omega arith; few = omega arith; below = λ i l. refl; above = λ i l. refl; low = low };
+        row = record { more = omega arith; few = omega arith; below = λ i l. refl; above = λ i l. refl; low = low; marked = λ m. m };
       }
 
   -- flags after flags
@@ -177,8 +181,7 @@ module _ {rule : Branch} where
         runs = λ base p q t lefts rights z e rl rr st.
             subst (λ y. Stands base t rule y c′ B₂ W₂) (sym (run-append rule p q t lefts rights xs ys z))
             (n .runs base p q t lefts rights (splitsRun rule p q t lefts rights xs z) e
-            (row-stays rule (4 * length xs) k W c W₁ (m .row) lefts p (rule .left) hl rl)
-            (row-stays rule (4 * length xs) k W c W₁ (m .row) rights q (rule .right) hr rr)
+            (row-stays (m .row) (rule .left) hl lefts p rl) (row-stays (m .row) (rule .right) hr rights q rr)
             (m .runs base p q t lefts rights z e rl rr st));
         row = record {
           more = omega (arith, m .row .more, n .row .more);
@@ -186,6 +189,7 @@ module _ {rule : Branch} where
           below = λ i l. n .row .below i l ∙ m .row .below i l;
           above = λ i l. n .row .above i l ∙ m .row .above i l;
           low = n .row .low;
+          marked = λ w. n .row .marked (m .row .marked w);
         };
       }
 
@@ -194,29 +198,29 @@ module _ {rule : Branch} where
     none-run = idle [] k B W low (λ p q t lefts rights z rl rr. refl)
 
     -- all splits with a left slot that is empty
-    pub skipped-left : (b₁ n : ℕ) → b₁ < rule .size → getD W (rule .left + b₁) 0 ≡ 0 → Runs (flagsAt (rule .own) n b₁) rule k B W k B W
+    pub skipped-left : (b₁ n : ℕ) → b₁ < rule .size → slotAt W (rule .left + b₁) ≡ 0 → Runs (flagsAt (rule .own) n b₁) rule k B W k B W
     skipped-left b₁ n h e =
         idle (flagsAt (rule .own) n b₁) k B W low
         (λ p q t lefts rights z rl rr. skip-all rule p q t lefts rights b₁ (upTo n) z (rl b₁ h ∙ ap setIn e))
 
     -- a split with a right slot that is empty
-    pub skipped-right : (b₁ b₂ : ℕ) → b₂ < rule .size → getD W (rule .right + b₂) 0 ≡ 0 → Runs ((b₁, b₂) ∷ []) rule k B W k B W
+    pub skipped-right : (b₁ b₂ : ℕ) → b₂ < rule .size → slotAt W (rule .right + b₂) ≡ 0 → Runs ((b₁, b₂) ∷ []) rule k B W k B W
     skipped-right b₁ b₂ h e =
         idle ((b₁, b₂) ∷ []) k B W low (λ p q t lefts rights z rl rr. skip-right rule p q t lefts rights (b₁, b₂) z (rr b₂ h ∙ ap setIn e))
 
     -- one split, with the numbers of its children's slots
     pub one-run : (b₁ b₂ l r c : ℕ) (B′ W′ : List ℕ) → b₁ < rule .size → b₂ < rule .size → rule .own + b₁ + b₂ < rule .size
-        → getD W (rule .left + b₁) 0 ≡ l → getD W (rule .right + b₂) 0 ≡ r → (l ≡ 0 → ⊥) → (r ≡ 0 → ⊥)
+        → slotAt W (rule .left + b₁) ≡ l → slotAt W (rule .right + b₂) ≡ r → (l ≡ 0 → ⊥) → (r ≡ 0 → ⊥)
         → Unites rule b₁ b₂ l r k B W c B′ W′ → Runs ((b₁, b₂) ∷ []) rule k B W c B′ W′
     one-run b₁ b₂ l r c B′ W′ h₁ h₂ hf el er nl nr u =
-        record { runs = runs; row = slot-row rule (rule .own + b₁ + b₂) 4 k W c W′ (u .slot) hf low }
+        record { runs = runs; row = slot-row (u .slot) (rule .size) hf low }
       where
         runs : (base : List Record) (p q t : ℕ) (lefts rights : Slots Set) (z : List Record × Slots Set) → length base ≡ rule .used
             → Row lefts p (rule .size) W (rule .left) → Row rights q (rule .size) W (rule .right) → Stands base t rule z k B W
             → Stands base t rule (step rule p q t lefts rights z (b₁, b₂)) c B′ W′
         runs base p q t lefts rights z e rl rr st =
             subst (λ y. Stands base t rule y c B′ W′) (sym (by-numbers ∙ united))
-            (record { table = refl; row = row-put (rule .to) flag 4 (rule .used) k W c W′ (u .slot) (rule .size) t (z .1) (st .row) })
+            (record { table = refl; row = row-put (u .slot) (rule .size) t (z .1) (st .row) })
           where
             flag : ℕ
             flag = rule .own + b₁ + b₂

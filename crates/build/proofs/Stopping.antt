@@ -1,6 +1,6 @@
 -- The last turn: the root's slots are united, and the building stops with the set that the paper's building makes, or past the limit.
 use mathlib.Core.Bool.{Bool, cond, false, false≢true, true, true≢false}
-use mathlib.Core.List.{List, [], _++_, _∷_, append-nil, tail-eq-of-cons-eq}
+use mathlib.Core.List.{List, [], _++_, _∷_, tail-eq-of-cons-eq}
 use mathlib.Core.Path.{_∙_, _≡_, ap, refl, subst, sym}
 use Prim.Native.Nat.{_*_, _+_, _-_, _<_, _≤_, ℕ}
 use native.Mathlib.Omega.{arith}
@@ -17,7 +17,7 @@ use Rattle.build.specs.Batch.{Made, Makes, Record, Set, empty, recordsIn
 use Rattle.build.specs.Frames.{FrameIs, width}
 use Rattle.build.specs.NodeOrder.{Stack, fromNode}
 use Rattle.build.specs.Roots.{UnitedTo, unitedTo}
-use Rattle.build.specs.Standing.{Standing, State, Stepped, stackLeft}
+use Rattle.build.specs.Standing.{Filling, Standing, State, Stepped, stackLeft}
 use Rattle.build.specs.States.{counted, ended, more, stopped}
 use Rattle.build.proofs.Accepting.{made-end, root-last}
 use Rattle.build.proofs.Limits.{constants-stay, more-records, some-left}
@@ -68,67 +68,72 @@ module _ (input : List ℕ) (t : State) (work : List ℕ) (before : List Record)
       (passed ∙ ap (λ (stack : List (Slots Set)). (before, s .slots ∷ stack)) alone)
       ∙ ap (λ n. through (acceptStep recordSets (queryIn input) n (s .slots)) (before, empty) (upTo (queryIn input .states))) root-number
 
-  module _ (m : Made) (batch batch′ : List ℕ) (u : UnitedTo input t work (t .states) batch m batch′) where
-    united : Makes (unitedTo input t (s .slots) (t .states)) (t .states) (t .used) 0 batch m batch′
-    united =
-        u (s .slots)
-        (subst (λ n. FrameIs (t .arity) (t .states) work (n * width (t .arity) (t .states)) (s .slots)) (sym (s .node .high)) (s .frames .frames .0))
+-- ---- the turn
+module _ (input : List ℕ) (t : State) (work batch : List ℕ) (base : List Record) (f : Filling input t work batch base) (few : t .count ≤ 324)
+    (done : length input ≤ t .rule) (last : t .nodes ≤ t .node + 1) (m : Made) (batch′ : List ℕ)
+    (u : UnitedTo input t work (t .states) batch m batch′) where
+  abbrev s : Standing input t work (base ++ recordsIn (t .count) batch)
+  s = f .standing
 
-    result : made (queryIn input) (treeIn input) ≡ (before ++ recordsIn (m .count) batch′, setIn (m .set))
-    result =
-        made-of-roots
-        ∙ ap (λ n. unitedTo input t (s .slots) n before) (sym (s .constants .states))
-        ∙ ap (unitedTo input t (s .slots) (t .states)) (sym (append-nil before))
-        ∙ united .makes before (s .used)
+  united : Makes (unitedTo input t (s .slots) (t .states)) (t .states) (t .from) (t .count) batch m batch′
+  united =
+      u (s .slots)
+      (subst (λ n. FrameIs (t .arity) (t .states) work (n * width (t .arity) (t .states)) (s .slots)) (sym (s .node .high)) (s .frames .frames .0))
 
-    made-many : length (madeFrom input) ≡ t .used + m .count
-    made-many = omega (arith, ap (λ z. length (z .0)) result, more-records before (m .count) batch′, s .used)
+  result : made (queryIn input) (treeIn input) ≡ (base ++ recordsIn (m .count) batch′, setIn (m .set))
+  result =
+      made-of-roots input t work (base ++ recordsIn (t .count) batch) s done last
+      ∙ ap (λ n. unitedTo input t (s .slots) n (base ++ recordsIn (t .count) batch)) (sym (s .constants .states))
+      ∙ united .makes base (f .start)
 
-    past-limit : t .limit - t .used < m .count → Stepped input t work before (ended (stopped t) (m .set)) work batch′
-    past-limit h = record {
-      limit = refl;
-      asked = refl;
-      rest = refl;
-      from = sym (s .used);
-      count = omega arith;
-      fits = omega (arith, s .few);
-      goes = λ e. absurd (false≢true e);
-      stops = λ e. record {
-        constants = constants-stay input t (ended (stopped t) (m .set)) refl refl refl refl refl refl (s .constants);
-        done = λ w. absurd (true≢false w);
-        past = λ w. (omega (arith, made-many, s .few), refl);
+  made-many : length (madeFrom input) ≡ t .from + m .count
+  made-many = omega (arith, ap (λ z. length (z .0)) result, more-records base (m .count) batch′, f .start)
+
+  past-limit : t .limit - t .from < m .count → Stepped input t work base (ended (stopped t) (m .set)) work batch′
+  past-limit h = record {
+    limit = refl;
+    asked = refl;
+    rest = refl;
+    from = sym (f .start);
+    count = omega arith;
+    fits = omega (arith, f .few);
+    goes = λ e. absurd (false≢true e);
+    stops = λ e. record {
+      constants = constants-stay input t (ended (stopped t) (m .set)) refl refl refl refl refl refl (s .constants);
+      done = λ w. absurd (true≢false w);
+      past = λ w. (omega (arith, made-many, f .few), refl);
+    };
+    falls = some-left input t work (base ++ recordsIn (t .count) batch) s;
+  }
+
+  within-limit : m .count ≤ t .limit - t .from → Stepped input t work base (ended (more t (m .count) (t .rule)) (m .set)) work batch′
+  within-limit h = record {
+    limit = refl;
+    asked = refl;
+    rest = refl;
+    from = sym (f .start);
+    count = omega (arith, united .few, few-states-here input t (s .constants) (s .node));
+    fits = omega (arith, f .few);
+    goes = λ e. absurd (false≢true e);
+    stops = λ e. record {
+      constants = constants-stay input t (ended (more t (m .count) (t .rule)) (m .set)) refl refl refl refl refl refl (s .constants);
+      done = λ w. record {
+        made = result;
+        used = omega (arith, more-records base (m .count) batch′, f .start);
+        few = omega (arith, f .few);
+        set = united .at-hand;
       };
-      falls = some-left input t work before s;
-    }
+      past = λ w. absurd (true≢false (sym w ∙ s .over));
+    };
+    falls = some-left input t work (base ++ recordsIn (t .count) batch) s;
+  }
 
-    within-limit : m .count ≤ t .limit - t .used → Stepped input t work before (ended (more t (m .count) (t .rule)) (m .set)) work batch′
-    within-limit h = record {
-      limit = refl;
-      asked = refl;
-      rest = refl;
-      from = sym (s .used);
-      count = omega (arith, united .few, few-states-here input t (s .constants) (s .node));
-      fits = omega (arith, s .few);
-      goes = λ e. absurd (false≢true e);
-      stops = λ e. record {
-        constants = constants-stay input t (ended (more t (m .count) (t .rule)) (m .set)) refl refl refl refl refl refl (s .constants);
-        done = λ w. record {
-          made = result;
-          used = omega (arith, more-records before (m .count) batch′, s .used);
-          few = omega (arith, s .few);
-          set = united .at-hand;
-        };
-        past = λ w. absurd (true≢false (sym w ∙ s .over));
-      };
-      falls = some-left input t work before s;
-    }
-
-    pub roots-stepped : {r r′ : State} → r ≡ counted t (m .count) (t .rule) → r′ ≡ ended r (m .set) → Stepped input t work before r′ work batch′
-    roots-stepped e e′ =
-        subst (λ x. Stepped input t work before x work batch′) (sym (e′ ∙ ap (λ x. ended x (m .set)) e))
-        (go (ltb (t .limit - t .used) (m .count)) refl)
-      where
-        go : (c : Bool) → ltb (t .limit - t .used) (m .count) ≡ c
-            → Stepped input t work before (ended (cond c (stopped t) (more t (m .count) (t .rule))) (m .set)) work batch′
-        go true w = past-limit (ltb-true (t .limit - t .used) (m .count) w)
-        go false w = within-limit (ltb-false (t .limit - t .used) (m .count) w)
+  pub roots-stepped : {r r′ : State} → r ≡ counted t (m .count) (t .rule) → r′ ≡ ended r (m .set) → Stepped input t work base r′ work batch′
+  roots-stepped e e′ =
+      subst (λ x. Stepped input t work base x work batch′) (sym (e′ ∙ ap (λ x. ended x (m .set)) e))
+      (go (ltb (t .limit - t .from) (m .count)) refl)
+    where
+      go : (c : Bool) → ltb (t .limit - t .from) (m .count) ≡ c
+          → Stepped input t work base (ended (cond c (stopped t) (more t (m .count) (t .rule))) (m .set)) work batch′
+      go true w = past-limit (ltb-true (t .limit - t .from) (m .count) w)
+      go false w = within-limit (ltb-false (t .limit - t .from) (m .count) w)

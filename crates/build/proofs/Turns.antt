@@ -1,19 +1,26 @@
--- The two loops over flags, turn by turn: that there is room for a turn, and what it adds to the flags that are done; then the rule.
+-- The two loops over flags: that there is room for a turn, what it adds to the flags that are done, and that the flags that are not
+-- marked need no turn. First the loop over the right flags, then that over the left ones, and with it the rule.
 -- B and W are the batch and the work where the loop begins, B′ and W′ what they are now.
-use mathlib.Core.List.{List, [], _∷_, append-nil}
-use mathlib.Core.Path.{_≡_, ap, refl, subst, sym}
-use Prim.Native.Nat.{_*_, _+_, _<_, _^_, _≤_, ℕ}
+use mathlib.Core.Bool.{Bool, false, true}
+use mathlib.Core.List.{List, [], _++_, _∷_, append-nil}
+use mathlib.Core.Path.{_∙_, _≡_, ap, refl, subst, sym}
+use Prim.Native.Nat.{_*_, _+_, _-_, _<_, _^_, _≤_, suc, zero, ℕ}
 use native.Mathlib.Nat.{pow-le-pow-right}
 use native.Mathlib.Omega.{arith}
-use borrow.Author.Tests.{eq-eqb}
+use borrow.Author.Tests.{eq-eqb, eqb-false, eqb-true}
 use lib.Bits.{bitAnd, or-disjoint, or-lt}
-use lib.ListN.{getD, length, length-append}
-use lib.Pow.{pow-mono}
+use lib.Count.{trailingZeros}
+use lib.Dec.{eqb}
+use lib.ListN.{length, length-append}
+use lib.Pow.{pow-mono, pow-pos}
 use Rattle.paper.specs.Lists.{each, upTo}
 use Rattle.laws.proofs.Bound.{few-beside}
+use Rattle.build.specs.Batch.{recordsIn}
 use Rattle.build.specs.Rules.{Branch, Branches, FlagsOf, OneRow, Room, Runs, Stands, Unites, flagsAt, pairAt, splitsRun}
-use Rattle.build.proofs.Running.{each-le, each-upTo, flags-apart, flags-none, flags-shared, low-stays}
-use Rattle.build.proofs.Running.{one-run, run-others, skipped-right, then-run}
+use Rattle.build.specs.Slots.{marksAt, slotAt}
+use Rattle.build.proofs.Marks.{Rest, first-below, first-onward, none-between, rest-ends, rest-onward, rest-starts}
+use Rattle.build.proofs.Running.{each-le, each-upTo, flags-apart, flags-none, flags-shared, low-stays, marked-stays, none-run, one-run}
+use Rattle.build.proofs.Running.{run-others, same-set, skipped-left, skipped-right, then-run}
 
 -- ---- flags
 pub size-small : (size : ℕ) → FlagsOf size → size ≤ 16
@@ -32,9 +39,12 @@ few-flags size own f h =
     subst (λ m. length (each (upTo m) (flagsAt own m)) ≤ 81) (sym (f .powers)) few
 
 -- ---- room stays
-room-stays : (rule : Branch) (most k : ℕ) (B W : List ℕ) (count : ℕ) (B′ W′ : List ℕ) → length B′ ≡ length B → length W′ ≡ length W
-    → OneRow rule most k W count W′ → Room rule k B W → Room rule count B′ W′
-room-stays rule most k B W count B′ W′ eb ew o r =
+pub some-flag : (size : ℕ) → FlagsOf size → 0 < size
+some-flag size f = omega (arith, f .powers, pow-pos (f .arity))
+
+room-stays : {rule : Branch} {most k : ℕ} {B W : List ℕ} {count : ℕ} {B′ W′ : List ℕ} → length B′ ≡ length B → length W′ ≡ length W
+    → OneRow (rule .to) (rule .size) (rule .used) most k W count W′ → Room rule k B W → Room rule count B′ W′
+room-stays {rule} eb ew o r =
     record {
       flags = r .flags;
       own-flag = r .own-flag;
@@ -44,9 +54,11 @@ room-stays rule most k B W count B′ W′ eb ew o r =
       left-before = r .left-before;
       right-before = r .right-before;
       within = omega (arith, r .within);
-      left-low = low-stays rule most k W count W′ o (rule .used + 1) (rule .left) (r .left-before) (r .left-low);
-      right-low = low-stays rule most k W count W′ o (rule .used + 1) (rule .right) (r .right-before) (r .right-low);
+      left-low = low-stays o (rule .left) (r .left-before) (r .left-low);
+      right-low = low-stays o (rule .right) (r .right-before) (r .right-low);
       low = o .low;
+      left-marked = marked-stays o (rule .left) (r .left-before) (some-flag (rule .size) (r .flags)) (r .left-marked);
+      right-marked = marked-stays o (rule .right) (r .right-before) (some-flag (rule .size) (r .flags)) (r .right-marked);
     }
 
 -- ---- a turn of the loop over b₂, which has come to n
@@ -63,10 +75,10 @@ module _ {rule : Branch} {k : ℕ} {B W : List ℕ} {b₁ n count : ℕ} {B′ W
   open RightTurn s using (batch-kept, work-kept, room, left-flag, left-apart, right-flag, done)
 
   here : Room rule count B′ W′
-  here = room-stays rule (4 * length (flagsAt (rule .own) n b₁)) k B W count B′ W′ batch-kept work-kept (done .row) room
+  here = room-stays batch-kept work-kept (done .row) room
 
-  same-left : getD W′ (rule .left + b₁) 0 ≡ getD W (rule .left + b₁) 0
-  same-left = done .row .below (rule .left + b₁) (omega (arith, room .left-before, left-flag))
+  same-left : slotAt W′ (rule .left + b₁) ≡ slotAt W (rule .left + b₁)
+  same-left = same-set (done .row) (rule .left) (room .left-before) b₁ left-flag
 
   -- three flags that share no bit are together a flag
   flag-below : bitAnd (rule .own + b₁) n ≡ 0 → rule .own + b₁ + n < rule .size
@@ -75,14 +87,15 @@ module _ {rule : Branch} {k : ℕ} {B W : List ℕ} {b₁ n count : ℕ} {B′ W
       sum-below (rule .size) (rule .own + b₁) n (room .flags) left-sum right-flag e
 
   -- a split has room
-  pub split-room : bitAnd (rule .own + b₁) n ≡ 0 → k + 4 * length (flagsAt (rule .own) (rule .size) b₁) ≤ 324
-      → ((5 * count + 20 ≤ length B′) × (rule .used + count ≤ 60320))
+  pub split-room : bitAnd (rule .own + b₁) n ≡ 0 → k + 4 * length (flagsAt (rule .own) (rule .size) b₁) ≤ 648 → {l r : ℕ}
+      → l ≡ slotAt W (rule .left + b₁) → r ≡ slotAt W′ (rule .right + n)
+      → ((5 * count + 20 ≤ length B′) × (rule .used + count ≤ 60644))
       × (((rule .own + b₁ + n < 16) × (rule .node < 65536))
-      × (((getD W (rule .left + b₁) 0 ≤ rule .used + count + 1) × (getD W′ (rule .right + n) 0 ≤ rule .used + count + 1))
-      × ((rule .to + (rule .own + b₁ + n) < length W′) × (getD W′ (rule .to + (rule .own + b₁ + n)) 0 ≤ rule .used + count + 1))))
-  split-room e few =
+      × (((l ≤ rule .used + count + 1) × (r ≤ rule .used + count + 1))
+      × ((rule .to + (rule .own + b₁ + n) < length W′) × (slotAt W′ (rule .to + (rule .own + b₁ + n)) ≤ rule .used + count + 1))))
+  split-room e few el er =
       let below = flag-below e in
-      let f : count + 4 ≤ 324 =
+      let f : count + 4 ≤ 648 =
       omega (
         arith,
         done .row .few,
@@ -111,36 +124,112 @@ module _ {rule : Branch} {k : ℕ} {B W : List ℕ} {b₁ n count : ℕ} {B′ W
       (then-run (flagsAt (rule .own) n b₁) ((b₁, n) ∷ []) (room .left-before) (room .right-before) done m)
 
   -- an empty right slot
-  pub with-empty : bitAnd (rule .own + b₁) n ≡ 0 → getD W′ (rule .right + n) 0 ≡ 0 → Runs (flagsAt (rule .own) (n + 1) b₁) rule k B W count B′ W′
+  pub with-empty : bitAnd (rule .own + b₁) n ≡ 0 → slotAt W′ (rule .right + n) ≡ 0 → Runs (flagsAt (rule .own) (n + 1) b₁) rule k B W count B′ W′
   with-empty e z = one-more count B′ W′ e (skipped-right count B′ W′ (here .low) b₁ n right-flag z)
 
   -- a split, united with its slot
-  pub with-split : bitAnd (rule .own + b₁) n ≡ 0 → (getD W (rule .left + b₁) 0 ≡ 0 → ⊥) → (getD W′ (rule .right + n) 0 ≡ 0 → ⊥)
-      → (c : ℕ) (B″ W″ : List ℕ) → Unites rule b₁ n (getD W (rule .left + b₁) 0) (getD W′ (rule .right + n) 0) count B′ W′ c B″ W″
+  pub with-split : bitAnd (rule .own + b₁) n ≡ 0 → {l r : ℕ} → l ≡ slotAt W (rule .left + b₁) → r ≡ slotAt W′ (rule .right + n)
+      → (l ≡ 0 → ⊥) → (r ≡ 0 → ⊥) → (c : ℕ) (B″ W″ : List ℕ) → Unites rule b₁ n l r count B′ W′ c B″ W″
       → Runs (flagsAt (rule .own) (n + 1) b₁) rule k B W c B″ W″
-  with-split e nl nr c B″ W″ u =
+  with-split e {l} {r} el er nl nr c B″ W″ u =
       one-more c B″ W″ e
-      (one-run count B′ W′ (here .low) b₁ n (getD W (rule .left + b₁) 0) (getD W′ (rule .right + n) 0) c B″ W″ left-flag right-flag (flag-below e)
-      same-left refl nl nr u)
+      (one-run count B′ W′ (here .low) b₁ n l r c B″ W″ left-flag right-flag (flag-below e) (same-left ∙ sym el) (sym er) nl nr u)
 
--- ---- a turn of the loop over b₁, which has come to n
-pub record LeftTurn (rule : Branch) (B W : List ℕ) (n count : ℕ) (B′ W′ : List ℕ) : Type 0 where
+-- ---- the loop over b₂: of the right row's marks some are left, and the flags before them are done
+pub record RightLoop (rule : Branch) (k : ℕ) (B W : List ℕ) (b₁ marks count : ℕ) (B′ W′ : List ℕ) : Type 0 where
   pub batch-kept : length B′ ≡ length B
   pub work-kept : length W′ ≡ length W
-  pub room : Room rule 0 B W
-  pub left-flag : n < rule .size
-  pub done : Runs (each (upTo n) (flagsAt (rule .own) (rule .size))) rule 0 B W count B′ W′
+  come : ℕ
+  rest : Rest (rule .size) (marksAt W (rule .right)) come marks
+  done : Runs (flagsAt (rule .own) come b₁) rule k B W count B′ W′
 
-module _ {rule : Branch} {B W : List ℕ} {n count : ℕ} {B′ W′ : List ℕ} (s : LeftTurn rule B W n count B′ W′) where
+module _ {rule : Branch} {k : ℕ} {B W : List ℕ} (room : Room rule k B W) {b₁ : ℕ} (left-flag : b₁ < rule .size)
+    (left-apart : bitAnd (rule .own) b₁ ≡ 0) where
+  -- nothing is done yet
+  pub right-starts : {marks : ℕ} → marks ≡ marksAt W (rule .right) → RightLoop rule k B W b₁ marks k B W
+  right-starts e = record {
+    batch-kept = refl;
+    work-kept = refl;
+    come = 0;
+    rest = subst (Rest (rule .size) (marksAt W (rule .right)) 0) (sym e)
+        (rest-starts (rule .size) (marksAt W (rule .right)) (size-small (rule .size) (room .flags)) (room .right-marked .few));
+    done = none-run k B W (room .low);
+  }
+
+  module _ {count : ℕ} {B′ W′ : List ℕ} (eb : length B′ ≡ length B) (ew : length W′ ≡ length W) where
+    turn-at : (n : ℕ) → n < rule .size → Runs (flagsAt (rule .own) n b₁) rule k B W count B′ W′ → RightTurn rule k B W b₁ n count B′ W′
+    turn-at n h done = record {
+      batch-kept = eb;
+      work-kept = ew;
+      room = room;
+      left-flag = left-flag;
+      left-apart = left-apart;
+      right-flag = h;
+      done = done;
+    }
+
+    -- one flag with an empty slot, and then so many
+    one-empty : (n : ℕ) → n < rule .size → slotAt W (rule .right + n) ≡ 0 → Runs (flagsAt (rule .own) n b₁) rule k B W count B′ W′
+        → Runs (flagsAt (rule .own) (n + 1) b₁) rule k B W count B′ W′
+    one-empty n h z done = go (eqb (bitAnd (rule .own + b₁) n) 0) refl
+      where
+        go : (c : Bool) → eqb (bitAnd (rule .own + b₁) n) 0 ≡ c → Runs (flagsAt (rule .own) (n + 1) b₁) rule k B W count B′ W′
+        go true e =
+            with-empty (turn-at n h done) (eqb-true (bitAnd (rule .own + b₁) n) 0 e)
+            (same-set (done .row) (rule .right) (room .right-before) n h ∙ z)
+        go false e = with-shared (turn-at n h done) (eqb-false (bitAnd (rule .own + b₁) n) 0 e)
+
+    past-empty : (d n m : ℕ) → n + d ≡ m → m ≤ rule .size → ((b : ℕ) → n ≤ b → b < m → slotAt W (rule .right + b) ≡ 0)
+        → Runs (flagsAt (rule .own) n b₁) rule k B W count B′ W′ → Runs (flagsAt (rule .own) m b₁) rule k B W count B′ W′
+    past-empty zero n m e h z done =
+        subst (λ x. Runs (flagsAt (rule .own) x b₁) rule k B W count B′ W′) (let w : n ≡ m = omega arith in w) done
+    past-empty (suc d) n m e h z done =
+        past-empty d (n + 1) m (omega arith) h (λ b l u. z b (omega arith) u) (one-empty n (omega arith) (z n (omega arith) (omega arith)) done)
+
+  module _ {marks count : ℕ} {B′ W′ : List ℕ} (s : RightLoop rule k B W b₁ marks count B′ W′) where
+    -- no mark is left
+    pub right-ends : marks ≡ 0 → Runs (flagsAt (rule .own) (rule .size) b₁) rule k B W count B′ W′
+    right-ends e =
+        past-empty (s .batch-kept) (s .work-kept) (rule .size - s .come) (s .come) (rule .size) (omega (arith, s .rest .far)) (omega arith)
+        (λ b h l. room .right-marked .empty b l (rest-ends _ _ _ _ (s .rest) e b h)) (s .done)
+
+    module _ (some : (marks ≡ 0 → ⊥)) {n : ℕ} (first : n ≡ trailingZeros 64 marks) where
+      -- at the first that is left
+      pub right-turn : RightTurn rule k B W b₁ n count B′ W′
+      right-turn =
+          let below = first-below _ _ _ _ (s .rest) some first refl in
+          turn-at (s .batch-kept) (s .work-kept) n below
+          (past-empty (s .batch-kept) (s .work-kept) (n - s .come) (s .come) n (omega (arith, first-onward _ _ _ _ (s .rest) some first refl))
+          (omega (arith, below))
+          (λ b h l. room .right-marked .empty b (omega (arith, below)) (none-between _ _ _ _ (s .rest) some first refl b h l)) (s .done))
+
+      pub right-onward : {left : ℕ} → left ≡ bitAnd marks (marks - 1) → {c : ℕ} {B″ W″ : List ℕ} → length B″ ≡ length B → length W″ ≡ length W
+          → Runs (flagsAt (rule .own) (n + 1) b₁) rule k B W c B″ W″ → RightLoop rule k B W b₁ left c B″ W″
+      right-onward others eb ew done = record {
+        batch-kept = eb;
+        work-kept = ew;
+        come = n + 1;
+        rest = rest-onward _ _ _ _ (s .rest) some first others;
+        done = done;
+      }
+
+-- ---- a turn of the loop over b₁, which has come to n
+pub record LeftTurn (rule : Branch) (k : ℕ) (B W : List ℕ) (n count : ℕ) (B′ W′ : List ℕ) : Type 0 where
+  pub batch-kept : length B′ ≡ length B
+  pub work-kept : length W′ ≡ length W
+  pub room : Room rule k B W
+  pub left-flag : n < rule .size
+  pub done : Runs (each (upTo n) (flagsAt (rule .own) (rule .size))) rule k B W count B′ W′
+
+module _ {rule : Branch} {k : ℕ} {B W : List ℕ} {n count : ℕ} {B′ W′ : List ℕ} (s : LeftTurn rule k B W n count B′ W′) where
   open LeftTurn s using (batch-kept, work-kept, room, left-flag, done)
 
   -- the splits beside one left flag have room
   pub beside-room : Room rule count B′ W′
-  beside-room =
-      room-stays rule (4 * length (each (upTo n) (flagsAt (rule .own) (rule .size)))) 0 B W count B′ W′ batch-kept work-kept (done .row) room
+  beside-room = room-stays batch-kept work-kept (done .row) room
 
-  pub beside-few : count + 4 * length (flagsAt (rule .own) (rule .size) n) ≤ 324
-  beside-few =
+  pub beside-few : k ≤ 324 → count + 4 * length (flagsAt (rule .own) (rule .size) n) ≤ 648
+  beside-few few =
       let flags = flagsAt (rule .own) (rule .size) in
       omega (
         arith,
@@ -152,33 +241,101 @@ module _ {rule : Branch} {B W : List ℕ} {n count : ℕ} {B′ W′ : List ℕ}
       )
 
   -- a left flag that shares a bit with the own one
-  pub without-left : (bitAnd (rule .own) n ≡ 0 → ⊥) → Runs (each (upTo (n + 1)) (flagsAt (rule .own) (rule .size))) rule 0 B W count B′ W′
+  pub without-left : (bitAnd (rule .own) n ≡ 0 → ⊥) → Runs (each (upTo (n + 1)) (flagsAt (rule .own) (rule .size))) rule k B W count B′ W′
   without-left f =
       let flags = flagsAt (rule .own) (rule .size) in
       rw (each-upTo flags n, flags-none (rule .own) n (rule .size) f, append-nil (each (upTo n) flags)) done
 
   -- the splits beside one more left flag
   pub with-left : (c : ℕ) (B″ W″ : List ℕ) → Runs (flagsAt (rule .own) (rule .size) n) rule count B′ W′ c B″ W″
-      → Runs (each (upTo (n + 1)) (flagsAt (rule .own) (rule .size))) rule 0 B W c B″ W″
+      → Runs (each (upTo (n + 1)) (flagsAt (rule .own) (rule .size))) rule k B W c B″ W″
   with-left c B″ W″ m =
       let flags = flagsAt (rule .own) (rule .size) in
       rw (each-upTo flags n) (then-run (each (upTo n) flags) (flags n) (room .left-before) (room .right-before) done m)
 
--- ---- the flags of both loops: all splits of the rule
-pub all-done : (rule : Branch) (B W : List ℕ) (count : ℕ) (B′ W′ : List ℕ) → Room rule 0 B W
-    → Runs (each (upTo (rule .size)) (flagsAt (rule .own) (rule .size))) rule 0 B W count B′ W′ → Branches rule W count B′ W′
-all-done rule B W count B′ W′ room m =
-    record {
-      branches = λ base arity label p q t lefts rights slots e f rl rr rs. rw (eq-eqb label label refl) (
-        subst (λ n. Stands base t rule (splitsRun rule p q t lefts rights (each (upTo n) (flagsAt (rule .own) n)) (base, slots)) count B′ W′) f
-            (m .runs base p q t lefts rights (base, slots) e rl rr (record { table = sym (append-nil base); row = rs })),
-        λ s b h. run-others rule p q t lefts rights s b h (each (upTo (2 ^ arity)) (flagsAt (rule .own) (2 ^ arity))) (base, slots),
-      );
-      row = record {
-        more = m .row .more;
-        few = omega (arith, m .row .few, few-flags (rule .size) (rule .own) (room .flags) (room .own-flag));
-        below = m .row .below;
-        above = m .row .above;
-        low = m .row .low;
-      };
-    }
+  -- an empty left slot
+  with-none : slotAt W (rule .left + n) ≡ 0 → Runs (each (upTo (n + 1)) (flagsAt (rule .own) (rule .size))) rule k B W count B′ W′
+  with-none z =
+      with-left count B′ W′
+      (skipped-left count B′ W′ (beside-room .low) n (rule .size) left-flag
+      (same-set (done .row) (rule .left) (room .left-before) n left-flag ∙ z))
+
+-- ---- the loop over b₁, likewise
+pub record LeftLoop (rule : Branch) (k : ℕ) (B W : List ℕ) (marks count : ℕ) (B′ W′ : List ℕ) : Type 0 where
+  pub batch-kept : length B′ ≡ length B
+  pub work-kept : length W′ ≡ length W
+  come : ℕ
+  rest : Rest (rule .size) (marksAt W (rule .left)) come marks
+  done : Runs (each (upTo come) (flagsAt (rule .own) (rule .size))) rule k B W count B′ W′
+
+module _ {rule : Branch} {k : ℕ} {B W : List ℕ} (room : Room rule k B W) where
+  pub left-starts : {marks : ℕ} → marks ≡ marksAt W (rule .left) → LeftLoop rule k B W marks k B W
+  left-starts e = record {
+    batch-kept = refl;
+    work-kept = refl;
+    come = 0;
+    rest = subst (Rest (rule .size) (marksAt W (rule .left)) 0) (sym e)
+        (rest-starts (rule .size) (marksAt W (rule .left)) (size-small (rule .size) (room .flags)) (room .left-marked .few));
+    done = none-run k B W (room .low);
+  }
+
+  module _ {count : ℕ} {B′ W′ : List ℕ} (eb : length B′ ≡ length B) (ew : length W′ ≡ length W) where
+    left-at : (n : ℕ) → n < rule .size → Runs (each (upTo n) (flagsAt (rule .own) (rule .size))) rule k B W count B′ W′
+        → LeftTurn rule k B W n count B′ W′
+    left-at n h done = record { batch-kept = eb; work-kept = ew; room = room; left-flag = h; done = done }
+
+    past-none : (d n m : ℕ) → n + d ≡ m → m ≤ rule .size → ((b : ℕ) → n ≤ b → b < m → slotAt W (rule .left + b) ≡ 0)
+        → Runs (each (upTo n) (flagsAt (rule .own) (rule .size))) rule k B W count B′ W′
+        → Runs (each (upTo m) (flagsAt (rule .own) (rule .size))) rule k B W count B′ W′
+    past-none zero n m e h z done =
+        subst (λ x. Runs (each (upTo x) (flagsAt (rule .own) (rule .size))) rule k B W count B′ W′) (let w : n ≡ m = omega arith in w) done
+    past-none (suc d) n m e h z done =
+        past-none d (n + 1) m (omega arith) h (λ b l u. z b (omega arith) u)
+        (with-none (left-at n (omega arith) done) (z n (omega arith) (omega arith)))
+
+  -- the flags of both loops: all splits of the rule
+  all-done : {count : ℕ} {B′ W′ : List ℕ} → Runs (each (upTo (rule .size)) (flagsAt (rule .own) (rule .size))) rule k B W count B′ W′
+      → Branches rule k B W count B′ W′
+  all-done {count} {B′} {W′} m =
+      record {
+        branches = λ base arity label p q t lefts rights slots e f rl rr rs. rw (eq-eqb label label refl) (
+          subst (λ n. Stands base t rule (splitsRun rule p q t lefts rights (each (upTo n) (flagsAt (rule .own) n)) (base ++ recordsIn k B, slots))
+              count B′ W′) f
+              (m .runs base p q t lefts rights (base ++ recordsIn k B, slots) e rl rr (record { table = refl; row = rs })),
+          λ s b h. run-others rule p q t lefts rights s b h (each (upTo (2 ^ arity)) (flagsAt (rule .own) (2 ^ arity))) (base ++ recordsIn k B, slots),
+        );
+        row = record {
+          more = m .row .more;
+          few = omega (arith, m .row .few, few-flags (rule .size) (rule .own) (room .flags) (room .own-flag));
+          below = m .row .below;
+          above = m .row .above;
+          low = m .row .low;
+          marked = m .row .marked;
+        };
+      }
+
+  module _ {marks count : ℕ} {B′ W′ : List ℕ} (s : LeftLoop rule k B W marks count B′ W′) where
+    pub left-ends : marks ≡ 0 → Branches rule k B W count B′ W′
+    left-ends e =
+        all-done
+        (past-none (s .batch-kept) (s .work-kept) (rule .size - s .come) (s .come) (rule .size) (omega (arith, s .rest .far)) (omega arith)
+        (λ b h l. room .left-marked .empty b l (rest-ends _ _ _ _ (s .rest) e b h)) (s .done))
+
+    module _ (some : (marks ≡ 0 → ⊥)) {n : ℕ} (first : n ≡ trailingZeros 64 marks) where
+      pub left-turn : LeftTurn rule k B W n count B′ W′
+      left-turn =
+          let below = first-below _ _ _ _ (s .rest) some first refl in
+          left-at (s .batch-kept) (s .work-kept) n below
+          (past-none (s .batch-kept) (s .work-kept) (n - s .come) (s .come) n (omega (arith, first-onward _ _ _ _ (s .rest) some first refl))
+          (omega (arith, below))
+          (λ b h l. room .left-marked .empty b (omega (arith, below)) (none-between _ _ _ _ (s .rest) some first refl b h l)) (s .done))
+
+      pub left-onward : {left : ℕ} → left ≡ bitAnd marks (marks - 1) → {c : ℕ} {B″ W″ : List ℕ} → length B″ ≡ length B → length W″ ≡ length W
+          → Runs (each (upTo (n + 1)) (flagsAt (rule .own) (rule .size))) rule k B W c B″ W″ → LeftLoop rule k B W left c B″ W″
+      left-onward others eb ew done = record {
+        batch-kept = eb;
+        work-kept = ew;
+        come = n + 1;
+        rest = rest-onward _ _ _ _ (s .rest) some first others;
+        done = done;
+      }

@@ -1,5 +1,4 @@
--- What the numbers of a batch and of the work mean: five numbers make a record, one number is the set of a slot. Then what it is to
--- make a set in a batch.
+-- What the numbers of a batch mean: five numbers make a record, one number is a set. Then what it is to make a set in a batch.
 use mathlib.Core.List.{List, [], _∷_, _++_}
 use mathlib.Core.Path.{_≡_}
 use Prim.Native.Nat.{ℕ, zero, suc, _+_, _*_, _≤_}
@@ -30,10 +29,6 @@ abbrev pub setIn : ℕ → Set
 setIn zero = empty
 setIn (suc zero) = unit
 setIn (suc (suc i)) = at i
-
--- the slots of one state: work from `from` on, a number for each flag
-abbrev pub rowAt : List ℕ → ℕ → ℕ → Set
-rowAt work from b = setIn (getD work (from + b) 0)
 
 -- `make`, given any table of `used` records and then the first k of the batch, gives the table and the set that are found afterwards.
 -- It makes at most `most` records, and its set is one at hand: empty, unit or a record of the table or of the batch

@@ -2,7 +2,7 @@
 use mathlib.Core.Bool.{true, false}
 use mathlib.Core.List.{List, _∷_}
 use mathlib.Core.Path.{_≡_}
-use Prim.Native.Nat.{ℕ, _≤_}
+use Prim.Native.Nat.{ℕ, _+_}
 use lib.ListN.{length, drop}
 use Rattle.build.specs.Batch.{Record}
 use Rattle.build.specs.Standing.{AtNode, Constants, InWork, Standing, State, stackLeft}
@@ -25,8 +25,7 @@ pub record Coming (input : List ℕ) (t : State) (node at top : ℕ) (work : Lis
   pub here : AtNode input node at top
   pub earlier : here .earlier ≡ made
   pub frames : InWork t work (here .stack)
-  pub used : length made ≡ t .used
-  pub few : t .used ≤ t .limit
+  pub used : length made ≡ t .from + t .count
 
 abbrev pub Comes : List ℕ → State → ℕ → ℕ → ℕ → List ℕ → Type 0
 Comes input t node at top work = (made : List Record) × Coming input t node at top work made
@@ -37,8 +36,8 @@ pub record Come (input : List ℕ) (t : State) (node : ℕ) (work : List ℕ) (m
   pub limit : r .limit ≡ t .limit
   pub asked : r .asked ≡ t .asked
   pub number : r .node ≡ node
-  pub from : r .from ≡ t .used
-  pub count : r .count ≡ 0
+  pub from : r .from ≡ t .from
+  pub count : r .count ≡ t .count
   pub rest : drop (t .asked) work′ ≡ drop (t .asked) work
 
 abbrev pub HasCome : List ℕ → State → ℕ → ℕ → ℕ → List ℕ → State → List ℕ → Type 0

@@ -7,10 +7,10 @@ use Rattle.paper.specs.Refusals.{over}
 use Rattle.build.specs.Batch.{Record}
 use Rattle.build.specs.Standing.{State, Standing, Stopped}
 
--- no record is made yet; the batch has room for the records of one rule, and the table for as many as are to fit
+-- no record is made yet; the batch has room for the records of two rules, and the table for as many as are to fit
 pub record Ready (input : List ℕ) (table : List Record) (s : State) (work batch : List ℕ) : Type 0 where
   pub standing : Standing input s work []
-  pub room : 1620 ≤ length batch
+  pub room : 3240 ≤ length batch
   pub entries : s .limit ≤ length table
 
 -- the building has stopped, and the records made are the table's first ones. The work behind the part asked for is as it was

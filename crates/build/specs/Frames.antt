@@ -5,16 +5,18 @@ use mathlib.Core.List.{List, [], _∷_}
 use Prim.Native.Nat.{ℕ, _+_, _*_, _^_, _<_}
 use lib.ListN.{length}
 use Rattle.paper.specs.Building.{Slots}
-use Rattle.build.specs.Batch.{Set, rowAt}
+use Rattle.build.specs.Batch.{Set}
+use Rattle.build.specs.Slots.{Marked, rowAt}
 
 -- the numbers of a frame
 abbrev pub width : ℕ → ℕ → ℕ
 width arity states = states * 2 ^ arity
 
 module _ (arity states : ℕ) where
-  -- the frame at base has these slots, as far as there are states and flags
-  abbrev pub FrameIs : List ℕ → ℕ → Slots Set → Type 0
-  FrameIs work base slots = (q b : ℕ) → q < states → b < 2 ^ arity → slots q b ≡ rowAt work (base + q * 2 ^ arity) b
+  -- the frame at base has these slots, as far as there are states and flags, and its rows are marked
+  pub record FrameIs (work : List ℕ) (base : ℕ) (slots : Slots Set) : Type 0 where
+    pub sets : (q b : ℕ) → q < states → b < 2 ^ arity → slots q b ≡ rowAt work (base + q * 2 ^ arity) b
+    pub marked : (q : ℕ) → q < states → Marked (2 ^ arity) work (base + q * 2 ^ arity)
 
   -- the frames of a stack of slots: the last one stands first in the list, and the oldest one's frame is at 0
   abbrev pub FramesAre : List ℕ → List (Slots Set) → Type 0

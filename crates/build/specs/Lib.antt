@@ -1,4 +1,5 @@
 pub mod Batch
+pub mod Slots
 pub mod Rules
 pub mod NodeOrder
 pub mod RuleOrder

@@ -16,11 +16,12 @@ unitedTo input t slots n table = through (acceptStep recordSets (queryIn input) 
 abbrev pub UnitedTo : List ℕ → State → List ℕ → ℕ → List ℕ → Made → List ℕ → Type 0
 UnitedTo input t work n batch made batch′ =
     (slots : Slots Set) → FrameIs (t .arity) (t .states) work (t .top * width (t .arity) (t .states)) slots
-    → Makes (unitedTo input t slots n) n (t .used) 0 batch made batch′
+    → Makes (unitedTo input t slots n) n (t .from) (t .count) batch made batch′
 
 -- one more state, wherever the batch began
 pub record UnitesNext (input : List ℕ) (t : State) (work : List ℕ) (state : ℕ) (made : Made) (batch : List ℕ) (r : Made) (batch′ : List ℕ)
     : Type 0 where
-  pub count : r .count ≤ state + 1
-  pub at-hand : r .set ≤ t .used + r .count + 1
+  pub more : t .count ≤ r .count
+  pub few : r .count ≤ t .count + (state + 1)
+  pub at-hand : r .set ≤ t .from + r .count + 1
   pub unites : (first : List ℕ) → UnitedTo input t work state first made batch → UnitedTo input t work (state + 1) first r batch′

@@ -18,6 +18,7 @@ use Rattle.stream.specs.Reading.{treeFacts, treeReply, queryFacts, queryReply}
 use Rattle.build.specs.Batch.{Record, Set, empty, recordsIn, setIn}
 use Rattle.build.specs.Frames.{FramesAre, width}
 use Rattle.build.specs.NodeOrder.{fromNode}
+use Rattle.build.specs.Slots.{slotAt}
 pub use Rattle.build.specs.declared.state.State.{State}
 
 -- ---- the numbers that stay
@@ -77,10 +78,10 @@ pub record AtRule (input : List ℕ) (node rule : ℕ) (here : StreamRecord) (ea
       ≡ atNode (queryIn input) here node stack (queryIn input .rules) (earlier, noSlots)
 
 -- ---- the work
--- the frames of these slots, the last one first; each number is that of a set at hand
+-- the frames of these slots, the last one first; each set is at hand
 pub record InWork (t : State) (work : List ℕ) (stack : List (Slots Set)) : Type 0 where
   pub frames : FramesAre (t .arity) (t .states) work stack
-  pub low : (i : ℕ) → i < length stack * width (t .arity) (t .states) → getD work i 0 ≤ t .used + 1
+  pub low : (i : ℕ) → i < length stack * width (t .arity) (t .states) → slotAt work i ≤ t .from + t .count + 1
   pub room : t .asked ≤ length work
 
 -- ---- all of it
@@ -93,16 +94,21 @@ pub record Standing (input : List ℕ) (t : State) (work : List ℕ) (made : Lis
   pub slots : Slots Set
   pub rule : AtRule input (t .node) (t .rule) (node .here) (node .earlier) (node .stack) (made, slots)
   pub frames : InWork t work (slots ∷ node .stack)
-  pub used : length made ≡ t .used
-  pub few : t .used ≤ t .limit
+  pub used : length made ≡ t .from + t .count
+
+-- in a turn: base is in the table, and the batch has the others. They are as many as fit
+pub record Filling (input : List ℕ) (t : State) (work batch : List ℕ) (base : List Record) : Type 0 where
+  pub standing : Standing input t work (base ++ recordsIn (t .count) batch)
+  pub start : length base ≡ t .from
+  pub few : t .from + t .count ≤ t .limit
 
 -- ---- where it has stopped
 -- with all records made, and the set
 pub record Done (input : List ℕ) (t : State) (all : List Record) : Type 0 where
   pub made : made (queryIn input) (treeIn input) ≡ (all, setIn (t .set))
-  pub used : length all ≡ t .used
-  pub few : t .used ≤ t .limit
-  pub set : t .set ≤ t .used + 1
+  pub used : length all ≡ t .from + t .count
+  pub few : t .from + t .count ≤ t .limit
+  pub set : t .set ≤ t .from + t .count + 1
 
 -- or since more records are made than fit
 pub record Stopped (input : List ℕ) (t : State) (all : List Record) : Type 0 where
@@ -116,22 +122,30 @@ abbrev pub turnsLeft : List ℕ → State → ℕ
 turnsLeft input t =
     cond (t .going) ((nodesIn input - t .node) * suc (length input) + length (recordsOf (drop (t .rule) input))) 0
 
--- from where these records are made; the batch has the new ones
-pub record Stepped (input : List ℕ) (t : State) (work : List ℕ) (made : List Record) (r : State) (work′ batch′ : List ℕ) : Type 0 where
+-- from where base is in the table; the batch has the other records that are made
+pub record Stepped (input : List ℕ) (t : State) (work : List ℕ) (base : List Record) (r : State) (work′ batch′ : List ℕ) : Type 0 where
   pub limit : r .limit ≡ t .limit
   pub asked : r .asked ≡ t .asked
   pub rest : drop (t .asked) work′ ≡ drop (t .asked) work
-  pub from : r .from ≡ length made
-  pub count : r .count ≤ 324
+  pub from : r .from ≡ length base
+  pub count : r .count ≤ 648
   pub fits : r .from + r .count ≤ r .limit
-  pub goes : r .going ≡ true → Standing input r work′ (made ++ recordsIn (r .count) batch′)
-  pub stops : r .going ≡ false → Stopped input r (made ++ recordsIn (r .count) batch′)
+  pub goes : r .going ≡ true → Standing input r work′ (base ++ recordsIn (r .count) batch′)
+  pub stops : r .going ≡ false → Stopped input r (base ++ recordsIn (r .count) batch′)
   pub falls : turnsLeft input r < turnsLeft input t
 
--- the building stands there, with some records made
+-- the building stands there, with some records made, as many as fit
 abbrev pub IsStanding : List ℕ → State → List ℕ → Type 0
-IsStanding input t work = (made : List Record) × Standing input t work made
+IsStanding input t work = (made : List Record) × Standing input t work made × (t .from + t .count ≤ t .limit)
 
--- a turn from there, whatever records are made
+abbrev pub IsFilling : List ℕ → State → List ℕ → List ℕ → Type 0
+IsFilling input t work batch = (base : List Record) × Filling input t work batch base
+
+-- a turn from there, whatever records are in the table
+abbrev pub Fills : List ℕ → State → List ℕ → List ℕ → State → List ℕ → List ℕ → Type 0
+Fills input t work batch r work′ batch′ = (base : List Record) → Filling input t work batch base → Stepped input t work base r work′ batch′
+
+-- turns with a new batch, where the table has all records that are made
 abbrev pub Turned : List ℕ → State → List ℕ → State → List ℕ → List ℕ → Type 0
-Turned input t work r work′ batch′ = (made : List Record) → Standing input t work made → Stepped input t work made r work′ batch′
+Turned input t work r work′ batch′ =
+    (made : List Record) → Standing input t work made → t .from + t .count ≤ t .limit → Stepped input t work made r work′ batch′

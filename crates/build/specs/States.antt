@@ -7,9 +7,8 @@ pub use Rattle.build.specs.declared.state.State.{State}
 -- stopped, since they do not fit
 abbrev pub stopped : State → State
 stopped t = record {
-  from = t .used;
+  from = t .from;
   count = 0;
-  used = t .used;
   at = t .at;
   node = t .node;
   top = t .top;
@@ -25,12 +24,11 @@ stopped t = record {
   over = true;
 }
 
--- with so many records more, at the next rule
+-- with so many records in the batch, at the next rule
 abbrev pub more : State → ℕ → ℕ → State
 more t count rule = record {
-  from = t .used;
+  from = t .from;
   count = count;
-  used = t .used + count;
   at = t .at;
   node = t .node;
   top = t .top;
@@ -47,14 +45,33 @@ more t count rule = record {
 }
 
 abbrev pub counted : State → ℕ → ℕ → State
-counted t count rule = cond (ltb (t .limit - t .used) count) (stopped t) (more t count rule)
+counted t count rule = cond (ltb (t .limit - t .from) count) (stopped t) (more t count rule)
+
+-- with an empty batch: what it had is in the table
+abbrev pub emptied : State → State
+emptied t = record {
+  from = t .from + t .count;
+  count = 0;
+  at = t .at;
+  node = t .node;
+  top = t .top;
+  rule = t .rule;
+  set = t .set;
+  nodes = t .nodes;
+  rules = t .rules;
+  arity = t .arity;
+  states = t .states;
+  limit = t .limit;
+  asked = t .asked;
+  going = t .going;
+  over = t .over;
+}
 
 -- at the first rule of a node: its number, where its record stands, and the frames below its own
 abbrev pub started : State → ℕ → ℕ → ℕ → ℕ → State
 started t node at top rule = record {
-  from = t .used;
-  count = 0;
-  used = t .used;
+  from = t .from;
+  count = t .count;
   at = at;
   node = node;
   top = top;
@@ -75,7 +92,6 @@ abbrev pub ended : State → ℕ → State
 ended t set = record {
   from = t .from;
   count = t .count;
-  used = t .used;
   at = t .at;
   node = t .node;
   top = t .top;

@@ -1,6 +1,6 @@
-// A batch holds the records that one rule makes at one node, five numbers a record, before they go into the table.
+// A batch holds the records that a turn makes, five numbers a record, before they go into the table.
 // A set is a number: 0 is empty, 1 is unit, i + 2 is record i. The table has `used` records, at most 60,000, and the batch k more, at
-// most 324, which are numbered on: so the number of a record fits its field.
+// most 648, which are numbered on: so the number of a record fits its field.
 ghost use mathlib.Core.List.{[], _∷_, _++_};
 ghost use mathlib.Core.Path.{_≡_};
 ghost use Prim.Native.Nat.{_+_, _*_, _≤_, _<_};
@@ -30,7 +30,7 @@ fn put(batch: &mut [u16], k: usize, new: Record)
 
 // The record `new` as one more, and its set.
 fn new_record(batch: &mut [u16], k: usize, used: usize, new: Record) -> Made
-    requires { ⌜ (5 * k + 5 ≤ length (now batch)) × (used + k ≤ 60324) ⌝ }
+    requires { ⌜ (5 * k + 5 ≤ length (now batch)) × (used + k ≤ 60648) ⌝ }
     ensures { λ r. ⌜ Makes (newRecord new) 1 used k (now (batch .entry)) r (now (batch .exit)) ⌝ }
 {
     put(&mut *batch, k, new);
@@ -42,7 +42,7 @@ fn new_record(batch: &mut [u16], k: usize, used: usize, new: Record) -> Made
 
 // The node at each place of the flag; unit if it has none.
 pub(crate) fn single(batch: &mut [u16], k: usize, used: usize, node: u16, flag: usize) -> Made
-    requires { ⌜ (5 * k + 5 ≤ length (now batch)) × (used + k ≤ 60324) ⌝ }
+    requires { ⌜ (5 * k + 5 ≤ length (now batch)) × (used + k ≤ 60648) ⌝ }
     requires { ⌜ flag < 16 ⌝ }
     ensures { λ r. ⌜ Makes (singleRecord node flag) 1 used k (now (batch .entry)) r (now (batch .exit)) ⌝ }
 {
@@ -69,7 +69,7 @@ pub(crate) fn product(
     left: u64,
     right: u64,
 ) -> Made
-    requires { ⌜ (5 * k + 5 ≤ length (now batch)) × (used + k ≤ 60324) ⌝ }
+    requires { ⌜ (5 * k + 5 ≤ length (now batch)) × (used + k ≤ 60648) ⌝ }
     requires { ⌜ flag < 16 ⌝ }
     requires { ⌜ (left ≤ used + k + 1) × (right ≤ used + k + 1) ⌝ }
     ensures { λ r. ⌜ Makes (productRecord node flag (setIn left) (setIn right)) 1 used k (now (batch .entry)) r (now (batch .exit)) ⌝ }
@@ -106,7 +106,7 @@ pub(crate) fn union(
     left: u64,
     right: u64,
 ) -> Made
-    requires { ⌜ (5 * k + 5 ≤ length (now batch)) × (used + k ≤ 60324) ⌝ }
+    requires { ⌜ (5 * k + 5 ≤ length (now batch)) × (used + k ≤ 60648) ⌝ }
     requires { ⌜ flag < 16 ⌝ }
     requires { ⌜ (left ≤ used + k + 1) × (right ≤ used + k + 1) ⌝ }
     ensures { λ r. ⌜ Makes (unionRecord node flag (setIn left) (setIn right)) 1 used k (now (batch .entry)) r (now (batch .exit)) ⌝ }

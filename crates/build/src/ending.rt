@@ -2,11 +2,12 @@
 ghost use Prim.Native.Nat.{_+_, _≤_, _<_};
 ghost use lib.ListN.{length};
 ghost use Rattle.build.specs.Roots.{UnitedTo, UnitesNext};
-ghost use Rattle.build.specs.Standing.{IsStanding, Turned};
+ghost use Rattle.build.specs.Standing.{IsStanding, IsFilling, Fills};
 use crate::batch::Made;
 use crate::batch::union;
 use crate::frame::flags;
 use crate::frame::row_at;
+use crate::slot::set_in;
 use crate::state::State;
 use crate::state::count_records;
 use stream::is_accepting;
@@ -20,9 +21,9 @@ fn unite_root(
     made: Made,
     state: usize,
 ) -> Made
-    requires { ⌜ IsStanding (now input) t (now work) ⌝ }
-    requires { ⌜ (state < t .states) × (1620 ≤ length (now batch)) ⌝ }
-    requires { ⌜ (made .count ≤ state) × (made .set ≤ t .used + made .count + 1) ⌝ }
+    requires { ⌜ IsStanding (now input) t (now work) × (t .count ≤ 324) ⌝ }
+    requires { ⌜ (state < t .states) × (3240 ≤ length (now batch)) ⌝ }
+    requires { ⌜ (t .count ≤ made .count) × (made .count ≤ t .count + state) × (made .set ≤ t .from + made .count + 1) ⌝ }
     ensures { λ r. ⌜ UnitesNext (now (input .entry)) t (now (work .entry)) state made (now (batch .entry)) r (now (batch .exit)) ⌝ }
 {
     if !is_accepting(input, t.rules, state as u8) {
@@ -33,21 +34,21 @@ fn unite_root(
     union(
         &mut *batch,
         made.count,
-        t.used,
+        t.from,
         t.node as u16,
         places,
         made.set,
-        work[at],
+        set_in(work[at]),
     )
 }
 
 // All states, ascending.
 fn unite_roots(t: State, input: &[u8], work: &[u64], batch: &mut [u16]) -> Made
     requires { ⌜ IsStanding (now input) t (now work) ⌝ }
-    requires { ⌜ 1620 ≤ length (now batch) ⌝ }
+    requires { ⌜ (3240 ≤ length (now batch)) × (t .count ≤ 324) ⌝ }
     ensures { λ r. ⌜ UnitedTo (now (input .entry)) t (now (work .entry)) (t .states) (now (batch .entry)) r (now (batch .exit)) ⌝ }
 {
-    let mut made = Made { count: 0, set: 0 };
+    let mut made = Made { count: t.count, set: 0 };
     let mut state = 0;
     while state < t.states {
         made = unite_root(t, input, work, &mut *batch, made, state);
@@ -58,10 +59,10 @@ fn unite_roots(t: State, input: &[u8], work: &[u64], batch: &mut [u16]) -> Made
 
 // The end of the building.
 pub(crate) fn roots(t: State, input: &[u8], work: &[u64], batch: &mut [u16]) -> State
-    requires { ⌜ IsStanding (now input) t (now work) ⌝ }
+    requires { ⌜ IsFilling (now input) t (now work) (now batch) ⌝ }
     requires { ⌜ (length (now input) ≤ t .rule) × (t .nodes ≤ t .node + 1) ⌝ }
-    requires { ⌜ 1620 ≤ length (now batch) ⌝ }
-    ensures { λ r. ⌜ Turned (now (input .entry)) t (now (work .entry)) r (now (work .entry)) (now (batch .exit)) ⌝ }
+    requires { ⌜ (3240 ≤ length (now batch)) × (t .count ≤ 324) ⌝ }
+    ensures { λ r. ⌜ Fills (now (input .entry)) t (now (work .entry)) (now (batch .entry)) r (now (work .entry)) (now (batch .exit)) ⌝ }
 {
     let made = unite_roots(t, input, work, &mut *batch);
     let mut last = count_records(t, made.count, t.rule);

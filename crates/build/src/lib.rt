@@ -14,6 +14,7 @@ mod ending;
 mod frame;
 mod node;
 mod rule;
+mod slot;
 mod state;
 mod step;
 mod whole;
@@ -26,7 +27,7 @@ pub fn build(input: &[u8], work: &mut [u64], table: &mut [Record]) -> Built
     match begin(input, &mut *work, entries) {
         Begun::Refused(why) => Built::Refused(why),
         Begun::Going(s) => {
-            let mut batch: [u16; 1620] = [0; 1620];
+            let mut batch: [u16; 3240] = [0; 3240];
             let e = drive(&mut *table, input, s, &mut *work, &mut batch);
             let answer = finish(e, &mut *work);
             if e.over {
@@ -37,7 +38,7 @@ pub fn build(input: &[u8], work: &mut [u64], table: &mut [Record]) -> Built
     }
 }
 
-// All turns: the records that each makes are stored in the table before the next.
+// All steps: the records that each makes are stored in the table before the next.
 fn drive(table: &mut [Record], input: &[u8], s: State, work: &mut [u64], batch: &mut [u16]) -> State
     requires { ⌜ Ready (now input) (now table) s (now work) (now batch) ⌝ }
     ensures { λ r. ⌜ Driven (now (input .entry)) (now (table .entry)) s (now (work .entry)) (now (table .exit)) r (now (work .exit)) ⌝ }

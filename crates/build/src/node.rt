@@ -1,11 +1,11 @@
-// The turns of the building at one node: a rule, and the step to the next node.
+// The turns of the building at one node: its rules, and the step to the next node.
 ghost use mathlib.Core.Path.{_≡_};
 ghost use mathlib.Core.List.{List};
 ghost use Prim.Native.Nat.{ℕ, _+_, _≤_, _<_};
 ghost use lib.ListN.{length, getD};
 ghost use Rattle.build.specs.Branches.{BranchReady, branchOf};
 ghost use Rattle.build.specs.Coming.{Comes, HasCome, Joins};
-ghost use Rattle.build.specs.Standing.{IsStanding, Turned};
+ghost use Rattle.build.specs.Standing.{IsStanding, IsFilling, Fills};
 use crate::frame::clear;
 use crate::frame::copy_down;
 use crate::frame::flags;
@@ -20,35 +20,37 @@ use crate::state::count_records;
 use stream::body_length;
 use stream::next_rule;
 
-// The next rule of a leaf.
-fn leaf_turn(t: State, input: &[u8], work: &mut [u64], batch: &mut [u16]) -> State
-    requires { ⌜ IsStanding (now input) t (now work) ⌝ }
+// The rules of a leaf from the next one on, as long as there is room in the batch for the records of one more.
+fn leaf_rules(t: State, input: &[u8], work: &mut [u64], batch: &mut [u16]) -> State
+    requires { ⌜ IsFilling (now input) t (now work) (now batch) ⌝ }
     requires { ⌜ (t .rule < length (now input)) × (getD (now input) (t .at) 0 ≡ 1) ⌝ }
-    requires { ⌜ 1620 ≤ length (now batch) ⌝ }
-    ensures { λ r. ⌜ Turned (now (input .entry)) t (now (work .entry)) r (now (work .exit)) (now (batch .exit)) ⌝ }
+    requires { ⌜ (3240 ≤ length (now batch)) × (t .count ≤ 324) ⌝ }
+    ensures { λ r. ⌜ Fills (now (input .entry)) t (now (work .entry)) (now (batch .entry)) r (now (work .exit)) (now (batch .exit)) ⌝ }
 {
     let at = t.at;
-    let rule = t.rule;
-    let flag = input[rule + 2] as usize;
-    let state = input[rule + 3] as usize;
-    let to = row_at(t.arity, t.states, t.top, state);
-    let count = leaf_rule(&mut *batch, &mut *work, t.used, t.node as u16, flag, to);
-    let next = next_rule(input, rule + 1 + body_length(17), 17, input[at + 1]);
-    count_records(t, count, next)
+    let label = input[at + 1];
+    let mut count = t.count;
+    let mut rule = t.rule;
+    while rule < input.len() && count <= 324 {
+        let flag = input[rule + 2] as usize;
+        let to = row_at(t.arity, t.states, t.top, input[rule + 3] as usize);
+        count = leaf_rule(&mut *batch, &mut *work, count, t.from, t.node as u16, flag, to);
+        rule = next_rule(input, rule + 1 + body_length(17), 17, label);
+    }
+    count_records(t, count, rule)
 }
 
-// The next rule of a branch, and its rows: of the left state in the older child's frame, the second below the node's, of the right one
-// in the last child's, the first below, and of its own in the node's frame.
-fn branch_at(t: State, input: &[u8]) -> Branch
-    requires { ⌜ BranchReady (now input) t ⌝ }
-    ensures { λ r. ⌜ r ≡ branchOf (now (input .entry)) t ⌝ }
+// A rule of a branch, and its rows: of the left state in the older child's frame, the second below the node's, of the right one in the
+// last child's, the first below, and of its own in the node's frame.
+fn branch_at(t: State, input: &[u8], rule: usize) -> Branch
+    requires { ⌜ BranchReady (now input) t rule ⌝ }
+    ensures { λ r. ⌜ r ≡ branchOf (now (input .entry)) t rule ⌝ }
 {
-    let rule = t.rule;
     let left = row_at(t.arity, t.states, t.top - 2, input[rule + 3] as usize);
     let right = row_at(t.arity, t.states, t.top - 1, input[rule + 4] as usize);
     let to = row_at(t.arity, t.states, t.top, input[rule + 5] as usize);
     Branch {
-        used: t.used,
+        used: t.from,
         node: t.node,
         size: flags(t.arity),
         own: input[rule + 2] as usize,
@@ -58,30 +60,37 @@ fn branch_at(t: State, input: &[u8]) -> Branch
     }
 }
 
-fn branch_turn(t: State, input: &[u8], work: &mut [u64], batch: &mut [u16]) -> State
-    requires { ⌜ IsStanding (now input) t (now work) ⌝ }
+// The rules of a branch, likewise.
+fn branch_rules(t: State, input: &[u8], work: &mut [u64], batch: &mut [u16]) -> State
+    requires { ⌜ IsFilling (now input) t (now work) (now batch) ⌝ }
     requires { ⌜ (t .rule < length (now input)) × (getD (now input) (t .at) 0 ≡ 1 → ⊥) ⌝ }
-    requires { ⌜ 1620 ≤ length (now batch) ⌝ }
-    ensures { λ r. ⌜ Turned (now (input .entry)) t (now (work .entry)) r (now (work .exit)) (now (batch .exit)) ⌝ }
+    requires { ⌜ (3240 ≤ length (now batch)) × (t .count ≤ 324) ⌝ }
+    ensures { λ r. ⌜ Fills (now (input .entry)) t (now (work .entry)) (now (batch .entry)) r (now (work .exit)) (now (batch .exit)) ⌝ }
 {
     let at = t.at;
-    let here = branch_at(t, input);
-    let count = branch_rule(&mut *batch, &mut *work, here);
-    let next = next_rule(input, t.rule + 1 + body_length(18), 18, input[at + 1]);
-    count_records(t, count, next)
+    let label = input[at + 1];
+    let mut count = t.count;
+    let mut rule = t.rule;
+    while rule < input.len() && count <= 324 {
+        let here = branch_at(t, input, rule);
+        count = branch_rule(&mut *batch, &mut *work, count, here);
+        rule = next_rule(input, rule + 1 + body_length(18), 18, label);
+    }
+    count_records(t, count, rule)
 }
 
-// One rule of the present node.
-pub(crate) fn one_rule(t: State, input: &[u8], work: &mut [u64], batch: &mut [u16]) -> State
-    requires { ⌜ IsStanding (now input) t (now work) ⌝ }
-    requires { ⌜ (t .rule < length (now input)) × (1620 ≤ length (now batch)) ⌝ }
-    ensures { λ r. ⌜ Turned (now (input .entry)) t (now (work .entry)) r (now (work .exit)) (now (batch .exit)) ⌝ }
+// The rules of the present node.
+pub(crate) fn node_rules(t: State, input: &[u8], work: &mut [u64], batch: &mut [u16]) -> State
+    requires { ⌜ IsFilling (now input) t (now work) (now batch) ⌝ }
+    requires { ⌜ t .rule < length (now input) ⌝ }
+    requires { ⌜ (3240 ≤ length (now batch)) × (t .count ≤ 324) ⌝ }
+    ensures { λ r. ⌜ Fills (now (input .entry)) t (now (work .entry)) (now (batch .entry)) r (now (work .exit)) (now (batch .exit)) ⌝ }
 {
     let at = t.at;
     if input[at] == 1 {
-        return leaf_turn(t, input, &mut *work, &mut *batch);
+        return leaf_rules(t, input, &mut *work, &mut *batch);
     }
-    branch_turn(t, input, &mut *work, &mut *batch)
+    branch_rules(t, input, &mut *work, &mut *batch)
 }
 
 // The frame of the present node becomes that of a subtree, a branch's in the place of the frames that it joins. How many frames there
@@ -115,8 +124,6 @@ pub(crate) fn start_node(
     let from = frame_at(t.arity, t.states, top);
     clear(&mut *work, from, frame_width(t.arity, t.states));
     let mut next = t;
-    next.from = t.used;
-    next.count = 0;
     next.node = node;
     next.at = at;
     next.top = top;
@@ -127,8 +134,8 @@ pub(crate) fn start_node(
 // The end of the present node and the start of the next.
 pub(crate) fn next_node(t: State, input: &[u8], work: &mut [u64]) -> State
     requires { ⌜ IsStanding (now input) t (now work) ⌝ }
-    requires { ⌜ (length (now input) ≤ t .rule) × (t .node + 1 < t .nodes) ⌝ }
-    ensures { λ r. ⌜ ((batch : List ℕ) → Turned (now (input .entry)) t (now (work .entry)) r (now (work .exit)) batch) ⌝ }
+    requires { ⌜ (length (now input) ≤ t .rule) × (t .node + 1 < t .nodes) × (t .count ≤ 324) ⌝ }
+    ensures { λ r. ⌜ ((batch : List ℕ) → Fills (now (input .entry)) t (now (work .entry)) batch r (now (work .exit)) batch) ⌝ }
 {
     let at = t.at;
     let next = at + 1 + body_length(input[at]);

@@ -3,14 +3,20 @@
 ghost use mathlib.Core.Path.{_≡_};
 ghost use Prim.Native.Nat.{_+_, _*_, _≤_, _<_};
 ghost use lib.Bits.{bitAnd};
-ghost use lib.ListN.{length, getD};
+ghost use lib.ListN.{length};
 ghost use Rattle.paper.specs.Building.{triple, recordSets};
 ghost use Rattle.build.specs.Batch.{setIn, Makes};
 ghost use Rattle.build.specs.Rules.{splitAt, flagsAt, Unites, Leaves, Branches, Room, Runs};
+ghost use Rattle.build.specs.Slots.{slotAt};
 use crate::batch::Made;
 use crate::batch::product;
 use crate::batch::single;
 use crate::batch::union;
+use crate::slot::first_mark;
+use crate::slot::later_marks;
+use crate::slot::marks_in;
+use crate::slot::put_set;
+use crate::slot::set_in;
 
 // A branch rule at a node: the records in the table, the node, how many flags there are, the rule's own flag, and where in work the
 // rows of its left state, its right state and the state that it names start.
@@ -28,18 +34,19 @@ pub(crate) struct Branch {
 pub(crate) fn leaf_rule(
     batch: &mut [u16],
     work: &mut [u64],
+    k: usize,
     used: usize,
     node: u16,
     flag: usize,
     to: usize,
 ) -> usize
-    requires { ⌜ (5 ≤ length (now batch)) × (used ≤ 60000) ⌝ }
+    requires { ⌜ (5 * k + 5 ≤ length (now batch)) × (used + k ≤ 60648) ⌝ }
     requires { ⌜ flag < 16 ⌝ }
     requires { ⌜ to + flag < length (now work) ⌝ }
-    ensures { λ r. ⌜ Leaves node flag to used (now (work .entry)) r (now (batch .exit)) (now (work .exit)) ⌝ }
+    ensures { λ r. ⌜ Leaves node flag to used k (now (batch .entry)) (now (work .entry)) r (now (batch .exit)) (now (work .exit)) ⌝ }
 {
-    let made = single(&mut *batch, 0, used, node, flag);
-    work[to + flag] = made.set;
+    let made = single(&mut *batch, k, used, node, flag);
+    put_set(&mut *work, to, flag, made.set);
     made.count
 }
 
@@ -53,7 +60,7 @@ fn triple(
     left: u64,
     right: u64,
 ) -> Made
-    requires { ⌜ (5 * k + 15 ≤ length (now batch)) × (rule .used + k ≤ 60322) ⌝ }
+    requires { ⌜ (5 * k + 15 ≤ length (now batch)) × (rule .used + k ≤ 60646) ⌝ }
     requires { ⌜ (rule .own + b1 + b2 < 16) × (rule .node < 65536) ⌝ }
     requires { ⌜ (left ≤ rule .used + k + 1) × (right ≤ rule .used + k + 1) ⌝ }
     ensures { λ r. ⌜ Makes (triple recordSets (rule .node) (splitAt (rule .own) 0 0 0 (b1, b2)) (setIn left) (setIn right)) 3 (rule .used) k
@@ -79,21 +86,21 @@ fn split(
     left: u64,
     right: u64,
 ) -> usize
-    requires { ⌜ (5 * k + 20 ≤ length (now batch)) × (rule .used + k ≤ 60320) ⌝ }
+    requires { ⌜ (5 * k + 20 ≤ length (now batch)) × (rule .used + k ≤ 60644) ⌝ }
     requires { ⌜ (rule .own + b1 + b2 < 16) × (rule .node < 65536) ⌝ }
     requires { ⌜ (left ≤ rule .used + k + 1) × (right ≤ rule .used + k + 1) ⌝ }
     requires { ⌜ (rule .to + (rule .own + b1 + b2) < length (now work))
-        × (getD (now work) (rule .to + (rule .own + b1 + b2)) 0 ≤ rule .used + k + 1) ⌝ }
+        × (slotAt (now work) (rule .to + (rule .own + b1 + b2)) ≤ rule .used + k + 1) ⌝ }
     ensures { λ r. ⌜ Unites rule b1 b2 left right k (now (batch .entry)) (now (work .entry)) r (now (batch .exit)) (now (work .exit)) ⌝ }
 {
     let used = rule.used;
     let node = rule.node as u16;
     let flag = rule.own + b1 + b2;
-    let at = rule.to + flag;
-    let old = work[at];
+    let to = rule.to;
+    let old = set_in(work[to + flag]);
     let made = triple(&mut *batch, k, rule, b1, b2, left, right);
     let whole = union(&mut *batch, made.count, used, node, flag, old, made.set);
-    work[at] = whole.set;
+    put_set(&mut *work, to, flag, whole.set);
     whole.count
 }
 
@@ -102,42 +109,45 @@ fn split(
 fn beside(batch: &mut [u16], work: &mut [u64], k: usize, rule: Branch, b1: usize) -> usize
     requires { ⌜ Room rule k (now batch) (now work) ⌝ }
     requires { ⌜ (b1 < rule .size) × (bitAnd (rule .own) b1 ≡ 0) ⌝ }
-    requires { ⌜ k + 4 * length (flagsAt (rule .own) (rule .size) b1) ≤ 324 ⌝ }
+    requires { ⌜ k + 4 * length (flagsAt (rule .own) (rule .size) b1) ≤ 648 ⌝ }
     ensures { λ r. ⌜ Runs (flagsAt (rule .own) (rule .size) b1) rule k
         (now (batch .entry)) (now (work .entry)) r (now (batch .exit)) (now (work .exit)) ⌝ }
 {
     let left = rule.left;
     let right = rule.right;
-    let here = work[left + b1];
+    let here = set_in(work[left + b1]);
     if here == 0 {
         return k;
     }
     let mut count = k;
-    let mut b2 = 0;
-    while b2 < rule.size {
+    let mut marks = marks_in(work[right]);
+    while marks != 0 {
+        let b2 = first_mark(marks);
         if ((rule.own + b1) & b2) == 0 {
-            let there = work[right + b2];
+            let there = set_in(work[right + b2]);
             if there != 0 {
                 count = split(&mut *batch, &mut *work, count, rule, b1, b2, here, there);
             }
         }
-        b2 += 1;
+        marks = later_marks(marks);
     }
     count
 }
 
 // A branch rule that matches: its splits, for each b1 ascending that shares no bit with the own flag and then for each such b2.
-pub(crate) fn branch_rule(batch: &mut [u16], work: &mut [u64], rule: Branch) -> usize
-    requires { ⌜ Room rule 0 (now batch) (now work) ⌝ }
-    ensures { λ r. ⌜ Branches rule (now (work .entry)) r (now (batch .exit)) (now (work .exit)) ⌝ }
+pub(crate) fn branch_rule(batch: &mut [u16], work: &mut [u64], k: usize, rule: Branch) -> usize
+    requires { ⌜ Room rule k (now batch) (now work) × (k ≤ 324) ⌝ }
+    ensures { λ r. ⌜ Branches rule k (now (batch .entry)) (now (work .entry)) r (now (batch .exit)) (now (work .exit)) ⌝ }
 {
-    let mut count = 0;
-    let mut b1 = 0;
-    while b1 < rule.size {
+    let left = rule.left;
+    let mut count = k;
+    let mut marks = marks_in(work[left]);
+    while marks != 0 {
+        let b1 = first_mark(marks);
         if (rule.own & b1) == 0 {
             count = beside(&mut *batch, &mut *work, count, rule, b1);
         }
-        b1 += 1;
+        marks = later_marks(marks);
     }
     count
 }

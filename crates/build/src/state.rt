@@ -1,16 +1,15 @@
 // Where the building stands between two turns.
 ghost use mathlib.Core.Path.{_≡_};
-ghost use Prim.Native.Nat.{_+_, _≤_, _<_};
-ghost use Rattle.build.specs.States.{counted};
+ghost use Prim.Native.Nat.{_+_, _≤_};
+ghost use Rattle.build.specs.States.{counted, emptied};
 
-// `from` is where the batch goes in the table, `count` how many records it has, `used` how many there are with it. `at` is where the
-// record of the present node stands, `top` how many frames are below its own, `rule` where its next matching rule stands: the end of
-// the input where none is left. `set` is the set that was made, once the building has stopped, `over` that it stopped at the limit.
-// The others stay: the nodes, where the rules begin, the query's arity and states, the records that fit, the work asked for.
+// `from` is where the batch goes in the table, `count` how many records it has. `at` is where the record of the present node stands,
+// `top` how many frames are below its own, `rule` where its next matching rule stands: the end of the input where none is left. `set`
+// is the set that was made, once the building has stopped, `over` that it stopped at the limit. The others stay: the nodes, where the
+// rules begin, the query's arity and states, the records that fit, the work asked for.
 pub(crate) struct State {
     pub(crate) from: usize,
     pub(crate) count: usize,
-    pub(crate) used: usize,
     pub(crate) at: usize,
     pub(crate) node: usize,
     pub(crate) top: usize,
@@ -26,21 +25,30 @@ pub(crate) struct State {
     pub(crate) over: bool,
 }
 
-// A turn that has made so many records, and goes on at the next rule, unless the records pass the limit.
+// With so many records in the batch, and on to the next rule, unless the records pass the limit.
 pub(crate) fn count_records(t: State, count: usize, rule: usize) -> State
-    requires { ⌜ t .used ≤ t .limit ⌝ }
+    requires { ⌜ t .from ≤ t .limit ⌝ }
     ensures { λ r. ⌜ r ≡ counted t count rule ⌝ }
 {
     let mut next = t;
-    next.from = t.used;
-    if t.limit - t.used < count {
+    if t.limit - t.from < count {
         next.count = 0;
         next.going = false;
         next.over = true;
         return next;
     }
     next.count = count;
-    next.used = t.used + count;
     next.rule = rule;
+    next
+}
+
+// With an empty batch: what it had is in the table.
+pub(crate) fn empty_batch(t: State) -> State
+    requires { ⌜ t .from + t .count ≤ 60000 ⌝ }
+    ensures { λ r. ⌜ r ≡ emptied t ⌝ }
+{
+    let mut next = t;
+    next.from = t.from + t.count;
+    next.count = 0;
     next
 }

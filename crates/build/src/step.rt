@@ -1,22 +1,37 @@
-// One turn of the building. Between two turns the batch goes into the table.
+// What is done between two times that the batch goes into the table.
+ghost use mathlib.Core.Path.{_≡_};
 ghost use Prim.Native.Nat.{_≤_};
 ghost use lib.ListN.{length};
-ghost use Rattle.build.specs.Standing.{IsStanding, Turned};
+ghost use Rattle.build.specs.Standing.{IsStanding, IsFilling, Turned, Fills};
 use crate::ending::roots;
 use crate::node::next_node;
-use crate::node::one_rule;
+use crate::node::node_rules;
 use crate::state::State;
+use crate::state::empty_batch;
 
-// One rule of the present node, or the next node where no rule is left, or the end where no node is left.
-pub(crate) fn step(t: State, input: &[u8], work: &mut [u64], batch: &mut [u16]) -> State
-    requires { ⌜ IsStanding (now input) t (now work) × (1620 ≤ length (now batch)) ⌝ }
-    ensures { λ r. ⌜ Turned (now (input .entry)) t (now (work .entry)) r (now (work .exit)) (now (batch .exit)) ⌝ }
+// Rules of the present node, or the next node where no rule is left, or the end where no node is left.
+fn turn(t: State, input: &[u8], work: &mut [u64], batch: &mut [u16]) -> State
+    requires { ⌜ IsFilling (now input) t (now work) (now batch) ⌝ }
+    requires { ⌜ (3240 ≤ length (now batch)) × (t .count ≤ 324) ⌝ }
+    ensures { λ r. ⌜ Fills (now (input .entry)) t (now (work .entry)) (now (batch .entry)) r (now (work .exit)) (now (batch .exit)) ⌝ }
 {
     if t.rule < input.len() {
-        return one_rule(t, input, &mut *work, &mut *batch);
+        return node_rules(t, input, &mut *work, &mut *batch);
     }
     if t.node + 1 < t.nodes {
         return next_node(t, input, &mut *work);
     }
     roots(t, input, &*work, &mut *batch)
+}
+
+// Turns with a new batch, as long as it has room for the records of one more rule.
+pub(crate) fn step(t: State, input: &[u8], work: &mut [u64], batch: &mut [u16]) -> State
+    requires { ⌜ IsStanding (now input) t (now work) × (3240 ≤ length (now batch)) ⌝ }
+    ensures { λ r. ⌜ Turned (now (input .entry)) t (now (work .entry)) r (now (work .exit)) (now (batch .exit)) ⌝ }
+{
+    let mut s = empty_batch(t);
+    while s.going && s.count <= 324 {
+        s = turn(s, input, &mut *work, &mut *batch);
+    }
+    s
 }

@@ -53,7 +53,6 @@ fn start(
     let t = State {
         from: 0,
         count: 0,
-        used: 0,
         at: 0,
         node: 0,
         top: 0,
@@ -112,7 +111,7 @@ pub(crate) fn finish(t: State, work: &mut [u64]) -> Built
         nodes: t.nodes as u16,
         arity: t.arity as u16,
         places: places as u16,
-        used: t.used as u16,
+        used: (t.from + t.count) as u16,
         set: set,
     })
 }

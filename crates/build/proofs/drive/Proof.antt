@@ -44,10 +44,11 @@ record Before (input : List ℕ) (x₀ x : Held) : Type 0 where
   limit : x .state .limit ≡ x₀ .state .limit
   asked : x .state .asked ≡ x₀ .state .asked
   entries : x₀ .state .limit ≤ length (x₀ .table)
-  room : 1620 ≤ length (x₀ .batch)
+  room : 3240 ≤ length (x₀ .batch)
   written : x .table ≡ over made (x₀ .table)
   kept : drop (x₀ .state .asked) (x .work) ≡ drop (x₀ .state .asked) (x₀ .work)
   goes : x .state .going ≡ true → Standing input (x .state) (x .work) made
+  fits : x .state .from + x .state .count ≤ x .state .limit
   stops : x .state .going ≡ false → Stopped input (x .state) made
 
 starts : (input : List ℕ) (x : Held) → Ready input (x .table) (x .state) (x .work) (x .batch) → Before input x x
@@ -60,6 +61,7 @@ starts input x ready = record {
   written = refl;
   kept = refl;
   goes = λ _. ready .standing;
+  fits = omega (arith, ready .standing .used);
   stops = λ stopped. absurd (true≢false (sym (ready .standing .going) ∙ stopped));
 }
 
@@ -79,13 +81,14 @@ onward input x₀ x s w b long before going told = (
         (omega (arith, turn .fits, turn .from, turn .limit, before .limit, before .entries)) (omega (arith, turn .count, before .room, long));
     kept = subst (λ (n : ℕ). drop n w ≡ drop n (x .work)) (before .asked) (turn .rest) ∙ before .kept;
     goes = turn .goes;
+    fits = turn .fits;
     stops = turn .stops;
   },
   turn .falls,
 )
   where
     turn : Stepped input (x .state) (x .work) (before .made) s w b
-    turn = told (before .made) (before .goes going)
+    turn = told (before .made) (before .goes going) (before .fits)
 
 stops : (input : List ℕ) (x₀ x : Held) → Before input x₀ x → x .state .going ≡ false
     → Driven input (x₀ .table) (x₀ .state) (x₀ .work) (x .table) (x .state) (x .work)
@@ -99,14 +102,14 @@ stops input x₀ x before stopped = record {
 
 abbrev law : Law u64 shape from-field count-field
 law = record {
-  Ask = λ i s w b. IsStanding i s w × (1620 ≤ length b);
+  Ask = λ i s w b. IsStanding i s w × (3240 ≤ length b);
   Tell = λ i s w b s′ w′ b′. Turned i s w s′ w′ b′;
   Ready = λ i x. Ready i (x .table) (x .state) (x .work) (x .batch);
   Built = λ i x y. Driven i (x .table) (x .state) (x .work) (y .table) (y .state) (y .work);
   Before = Before;
   falls = λ i x. turnsLeft i (x .state);
   starts = starts;
-  asks = λ i x₀ x long before going. ((before .made, before .goes going), omega (arith, before .room, long .1 .1));
+  asks = λ i x₀ x long before going. ((before .made, before .goes going, before .fits), omega (arith, before .room, long .1 .1));
   onward = λ i x₀ x s w b long long′ before going told. onward i x₀ x s w b (long′ .1 .1) before going told;
   stops = stops;
 }

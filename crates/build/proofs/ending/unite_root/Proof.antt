@@ -1,6 +1,9 @@
 -- `ending::unite_root` unites the slot of one more state, if that is accepting.
+use Prim.Native.Nat.{_+_, _-_, _<_, _≤_}
 use native.Mathlib.Omega.{arith}
 use borrow.Author.Needs.{needs}
+use lib.ListN.{length}
+use Rattle.build.specs.Slots.{slotAt}
 use Rattle.build.proofs.Roots.{RootReady, next-skipped, next-united, root-ready}
 use Rattle.build.proofs.ending.unite_root.Statement.{statement}
 use Rattle.build.proofs.ending.unite_root.Tie as tie
@@ -9,7 +12,7 @@ use Rattle.build.proofs.ending.unite_root.Tie as tie
 ready : (c : tie.Start) → RootReady (c .args .input .now) (c .args .t) (c .args .work .now) (c .args .state)
 ready c =
     let a = c .args in
-    root-ready (a .input .now) (a .t) (a .work .now) (c .pre .0 .0) (c .pre .0 .1) (a .state) (c .pre .1 .0 .0)
+    root-ready (a .input .now) (a .t) (a .work .now) (c .pre .0 .0 .0) (c .pre .0 .0 .1) (a .state) (c .pre .1 .0 .0)
 
 cast-is-accepting : tie.Need-cast-is-accepting
 cast-is-accepting c = omega (arith, ready (c .before .before .before))
@@ -21,8 +24,8 @@ returns : tie.Need-returns
 returns c =
     let start = c .before .before .before .before .before in
     let a = start .args in
-    next-skipped (a .input .now) (a .t) (a .work .now) (start .pre .0 .1 .constants) (a .state) (a .made) (start .pre .1 .1 .0) (start .pre .1 .1 .1)
-    (a .batch .now) (c .before .is-accepting .result) (c .before .is-accepting .ensures) (c .if1 .taken)
+    next-skipped (a .input .now) (a .t) (a .work .now) (start .pre .0 .0 .1 .constants) (a .state) (a .made) (start .pre .1 .1 .0) (start .pre .1 .1 .1)
+    (start .pre .1 .1 .2) (a .batch .now) (c .before .is-accepting .result) (c .before .is-accepting .ensures) (c .if1 .taken)
 
 flags-requires : tie.Need-flags-requires
 flags-requires c κs = omega (arith, ready (c .before .before .before .before .before))
@@ -35,43 +38,57 @@ row-at-requires c κs =
     let start = c .before .before .before .before .before .before in
     omega (arith, ready start, start .pre)
 
+abbrev start : tie.After-row-at → tie.Start
+start c = c .before .before .before .before .before .before .before
+
+-- the slot of all places is in the work, and its set at hand
+slot : (c : tie.After-row-at) → let s = start c in
+    (c .row-at .result + (c .before .flags .result - 1) < length (s .args .work .now))
+    × (slotAt (s .args .work .now) (c .row-at .result + (c .before .flags .result - 1)) ≤ s .args .t .from + s .args .t .count + 1)
+slot c = ready (start c) .slot (c .row-at .ensures) (c .before .flags .ensures)
+
 add-at : tie.Need-add-at
-add-at c =
-    let start = c .before .before .before .before .before .before .before in
-    omega (arith, ready start .slot (c .row-at .ensures) (c .before .flags .ensures), start .good)
+add-at c = omega (arith, slot c, (start c) .good)
 
 cast-union : tie.Need-cast-union
-cast-union c = omega (arith, ready (c .before .before .before .before .before .before .before .before .before))
+cast-union c = omega (arith, ready (start (c .before .before)))
 
-mul-union : tie.Need-mul-union
-mul-union c =
-    let row = c .before .before in
-    let start = row .before .before .before .before .before .before .before in
-    omega (arith, ready start .slot (row .row-at .ensures) (row .before .flags .ensures), start .good)
+mul-set-in : tie.Need-mul-set-in
+mul-set-in c = omega (arith, slot (c .before .before), (start (c .before .before)) .good)
 
-shared-slice-read-union : tie.Need-shared-slice-read-union
-shared-slice-read-union c =
-    let row = c .before .before .before in
-    ready (row .before .before .before .before .before .before .before) .slot (row .row-at .ensures) (row .before .flags .ensures) .0
+shared-slice-read-set-in : tie.Need-shared-slice-read-set-in
+shared-slice-read-set-in c = slot (c .before .before .before) .0
+
+set-in-requires : tie.Need-set-in-requires
+set-in-requires c κs = tt
 
 union-requires : tie.Need-union-requires
 union-requires c κs =
-    let row = c .before .before .before in
-    let start = row .before .before .before .before .before .before .before in
-    omega (arith, ready start, ready start .slot (row .row-at .ensures) (row .before .flags .ensures), start .pre, row .before .flags .ensures)
+    let row = c .before .before .before .before in
+    let s = start row in
+    omega (
+      arith,
+      ready s,
+      slot row,
+      s .pre,
+      s .pre .0 .0 .1 .constants .limit,
+      row .before .flags .ensures,
+      c .set-in .ensures,
+    )
 
 same-length : tie.Need-same-length
 same-length c = search needs
 
 returns-2 : tie.Need-returns-2
 returns-2 c =
-    let row = c .before .before .before .before .before .before in
+    let set = c .before .before .before in
+    let row = set .before .before .before .before in
     let asked = row .before .before .before in
-    let start = asked .before .before .before .before in
-    let a = start .args in
-    next-united (a .input .now) (a .t) (a .work .now) (start .pre .0 .1 .constants) (a .state) (a .made) (start .pre .1 .1 .0) (start .pre .1 .1 .1)
-    (a .batch .now) (asked .is-accepting .result) (asked .is-accepting .ensures) (row .before .before .if1 .left) (start .pre .1 .0 .0)
-    (row .row-at .ensures) (row .before .flags .ensures) (c .before .before .union .ensures)
+    let s = start row in
+    let a = s .args in
+    next-united (a .input .now) (a .t) (a .work .now) (s .pre .0 .0 .1 .constants) (a .state) (a .made) (s .pre .1 .1 .0) (s .pre .1 .1 .1)
+    (s .pre .1 .1 .2) (a .batch .now) (asked .is-accepting .result) (asked .is-accepting .ensures) (row .before .before .if1 .left) (s .pre .1 .0 .0)
+    (row .row-at .ensures) (row .before .flags .ensures) (set .set-in .ensures) (c .before .before .union .ensures)
 
 pub unite-root-spec : {M : Type 1} → statement M
 unite-root-spec =
@@ -85,8 +102,9 @@ unite-root-spec =
     row-at-requires
     add-at
     cast-union
-    mul-union
-    shared-slice-read-union
+    mul-set-in
+    shared-slice-read-set-in
+    set-in-requires
     union-requires
     same-length
     returns-2)

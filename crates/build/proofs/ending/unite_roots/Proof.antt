@@ -11,7 +11,7 @@ use Rattle.build.proofs.ending.unite_roots.Tie as tie
 
 abbrev Inv-loop : tie.InvT-loop
 Inv-loop t input work batch₀ made₀ state₀ batch made state =
-    (state ≤ t .states) × (length batch ≡ length batch₀) × (made .count ≤ state) × (made .set ≤ t .used + made .count + 1)
+    (state ≤ t .states) × (length batch ≡ length batch₀) × (t .count ≤ made .count) × (made .count ≤ t .count + state) × (made .set ≤ t .from + made .count + 1)
     × UnitedTo input t work state batch₀ made batch
 
 abbrev μ-loop : tie.MeasureT-loop
@@ -20,13 +20,13 @@ abbrev μ-loop : tie.MeasureT-loop
 loop-holds : tie.Need-loop-holds Inv-loop μ-loop
 loop-holds c =
     let a = c .before .before .before .args in
-    (omega arith, refl, omega arith, omega arith, united-none (a .input .now) (a .t) (a .work .now) (a .batch .now))
+    (omega arith, refl, omega arith, omega arith, omega arith, united-none (a .input .now) (a .t) (a .work .now) (a .batch .now))
 
 unite-root-requires : tie.Need-unite-root-requires Inv-loop μ-loop
 unite-root-requires c κs =
     let l = c .before .before .before .loop in
     let start = c .before .before .before .before .before .before .before in
-    (start .pre .0, ((c .before .if1 .taken, omega (arith, start .pre .1, l .inv .1)), (l .inv .2, l .inv .3)))
+    ((start .pre .0, start .pre .1 .1), ((c .before .if1 .taken, omega (arith, start .pre .1 .0, l .inv .1)), (l .inv .2, l .inv .3, l .inv .4)))
 
 add-state : tie.Need-add-state Inv-loop μ-loop
 add-state c =
@@ -45,9 +45,10 @@ loop-again c =
     let next = done .unite-root .ensures in (
       omega (arith, done .before .before .if1 .taken),
       done .unite-root .kept .1 .1 .1 .0 ∙ l .inv .1,
-      next .count,
+      next .more,
+      next .few,
       next .at-hand,
-      next .unites (start .args .batch .now) (l .inv .4),
+      next .unites (start .args .batch .now) (l .inv .5),
     )
 
 same-length : tie.Need-same-length Inv-loop μ-loop
@@ -58,7 +59,7 @@ returns c =
     let l = c .before .before .loop in
     let a = c .before .before .before .before .before .before .args in
     let all : l .state ≡ a .t .states = omega (arith, l .inv .0, c .if1 .left) in
-    subst (λ n. UnitedTo (a .input .now) (a .t) (a .work .now) n (a .batch .now) (l .made) (l .batch)) all (l .inv .4)
+    subst (λ n. UnitedTo (a .input .now) (a .t) (a .work .now) n (a .batch .now) (l .made) (l .batch)) all (l .inv .5)
 
 pub unite-roots-spec : {M : Type 1} → statement M
 unite-roots-spec =

@@ -64,12 +64,12 @@ returns c =
     let third = c .before .before in
     let second = third .before .before in
     let first = second .before .before .before in
-    let t = first .before .before .before .before .args .t in
+    let a = first .before .before .before .before .args in
     λ i. record {
-      used = t .used;
-      node = t .node;
+      used = a .t .from;
+      node = a .t .node;
       size = c .before .flags .ensures i;
-      own = getD (first .before .before .before .before .args .input .now) (t .rule + 2) 0;
+      own = getD (a .input .now) (a .rule + 2) 0;
       left = first .row-at .ensures i;
       right = second .row-at2 .ensures i;
       to = third .row-at3 .ensures i;

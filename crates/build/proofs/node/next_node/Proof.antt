@@ -1,8 +1,10 @@
 -- `node::next_node` ends the present node and starts the next.
-use mathlib.Core.Path.{ap}
+use mathlib.Core.List.{_++_}
+use mathlib.Core.Path.{ap, refl}
 use Prim.Native.Nat.{_+_}
 use native.Mathlib.Omega.{arith}
 use borrow.Author.Needs.{needs}
+use Rattle.build.specs.Batch.{recordsIn}
 use Rattle.build.proofs.NextNode.{comes-next, node-stepped}
 use Rattle.build.proofs.Present.{NodeReady, node-ready}
 use Rattle.build.proofs.node.next_node.Statement.{statement}
@@ -49,16 +51,19 @@ same-length : tie.Need-same-length
 same-length c = search needs
 
 returns : tie.Need-returns
-returns c batch made s =
+returns c batch base f =
     let come = c .before .before in
     let joined = come .before .before .before .before .before in
     let length = joined .before .before in
     let start = length .before .before .before .before in
     let a = start .args in
+    let made = base ++ recordsIn (a .t .count) batch in
+    let s = f .standing in
     let j = joined .join-frames .ensures made s in
     node-stepped (a .input .now) (a .t) (a .work .now) made s (start .pre .1 .0) (start .pre .1 .1) j
     (come .start-node .ensures made (comes-next (a .input .now) (a .t) (a .work .now) made s (start .pre .1 .0) (start .pre .1 .1)
-    (ap (λ n. a .t .at + 1 + n) (length .body-length .ensures)) j)) batch
+    (ap (λ n. a .t .at + 1 + n) (length .body-length .ensures)) j))
+    batch base refl (f .start) (f .few) (omega (arith, start .pre .1 .2))
 
 pub next-node-spec : {M : Type 1} → statement M
 next-node-spec =

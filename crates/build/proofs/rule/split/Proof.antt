@@ -6,37 +6,38 @@ use Rattle.build.proofs.rule.split.Statement.{statement}
 use Rattle.build.proofs.rule.split.Tie as tie
 
 cast-node : tie.Need-cast-node
-cast-node c = omega arith
+cast-node c = search needs
 
 add-flag : tie.Need-add-flag
-add-flag c = omega arith
+add-flag c = search needs
 
 add-flag-2 : tie.Need-add-flag-2
-add-flag-2 c = omega arith
+add-flag-2 c = search needs
 
-add-at : tie.Need-add-at
-add-at c = omega arith
+add-set-in : tie.Need-add-set-in
+add-set-in c = search needs
 
-mul-old : tie.Need-mul-old
-mul-old c = omega arith
+mul-set-in : tie.Need-mul-set-in
+mul-set-in c = search needs
 
-slice-read-old : tie.Need-slice-read-old
-slice-read-old c = omega arith
+slice-read-set-in : tie.Need-slice-read-set-in
+slice-read-set-in c = search needs
+
+set-in-requires : tie.Need-set-in-requires
+set-in-requires c κs = search needs
 
 triple-requires : tie.Need-triple-requires
-triple-requires c κs = omega arith
+triple-requires c κs = search needs
 
 union-requires : tie.Need-union-requires
-union-requires c κs = omega arith
+union-requires c κs = search needs
 
-abbrev start : tie.After-slice-known5 → tie.Start
-start c = c .before .before .before .before .before .before .before .before .before .before .before .before .before .before
-
-mul-work : tie.Need-mul-work
-mul-work c = omega (arith, (start c) .pre .1 .1 .1 .0, (start c) .good)
-
-slice-write-work : tie.Need-slice-write-work
-slice-write-work c = (start c) .pre .1 .1 .1 .0
+put-set-requires : tie.Need-put-set-requires
+put-set-requires c κs =
+    let second = c .before .before .before in
+    let first = second .before .before .before .before in
+    let start = first .before .before .before .before .before .before .before .before in
+    omega (arith, second .union .ensures .at-hand, second .union .ensures .few, first .triple .ensures .few, start .pre)
 
 same-length : tie.Need-same-length
 same-length c = search needs
@@ -46,11 +47,13 @@ same-length-2 c = search needs
 
 returns : tie.Need-returns
 returns c =
-    let second = c .before .before in
+    let put = c .before .before in
+    let second = put .before .before .before .before in
     let first = second .before .before .before .before in
-    let a = (start c) .args in
-    split-united (a .rule) (a .b1) (a .b2) (a .left) (a .right) (a .k) (a .batch .now) (a .work .now) _ _ _ _ (slice-write-work c)
-    (first .triple .ensures) (second .union .ensures)
+    let old = first .before .before in
+    let a = old .before .before .before .before .before .before .args in
+    split-united (a .rule) (a .b1) (a .b2) (a .left) (a .right) (a .k) (a .batch .now) (a .work .now) _ _ _ _ _ (old .set-in .ensures)
+    (first .triple .ensures) (second .union .ensures) (put .put-set .ensures)
 
 pub split-spec : {M : Type 1} → statement M
 split-spec =
@@ -59,13 +62,13 @@ split-spec =
     cast-node
     add-flag
     add-flag-2
-    add-at
-    mul-old
-    slice-read-old
+    add-set-in
+    mul-set-in
+    slice-read-set-in
+    set-in-requires
     triple-requires
     union-requires
-    mul-work
-    slice-write-work
+    put-set-requires
     same-length
     same-length-2
     returns)

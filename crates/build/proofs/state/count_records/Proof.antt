@@ -9,16 +9,13 @@ sub-if1 : tie.Need-sub-if1
 sub-if1 c = search needs
 
 returns : tie.Need-returns
-returns c = let t = c .before .before .args .t in rw (lt-ltb (t .limit - t .used) (c .before .before .args .count) (c .if1 .taken))
-
-add-next : tie.Need-add-next
-add-next c = search needs
+returns c = let t = c .before .before .args .t in rw (lt-ltb (t .limit - t .from) (c .before .before .args .count) (c .if1 .taken))
 
 returns-2 : tie.Need-returns-2
 returns-2 c =
-    let start = c .before .before .before in
+    let start = c .before .before in
     let t = start .args .t in
-    rw (le-ltb (t .limit - t .used) (start .args .count) (c .before .if1 .left))
+    rw (le-ltb (t .limit - t .from) (start .args .count) (c .if1 .left))
 
 pub count-records-spec : {M : Type 1} → statement M
-count-records-spec = tie.close (tie.spec sub-if1 returns add-next returns-2)
+count-records-spec = tie.close (tie.spec sub-if1 returns returns-2)

@@ -1,64 +1,128 @@
--- `step::step` hands over to one of three turns.
+-- `step::step` takes turns with a new batch. The loop's invariant: the building stands, or has stopped, with what is in the batch.
+use mathlib.Core.Bool.{false}
+use mathlib.Core.List.{List}
+use mathlib.Core.Logic.{_⊎_, inl, inr}
+use mathlib.Core.Path.{_∙_, _≡_, ap, refl, subst, sym}
+use Prim.Native.Nat.{_<_}
 use native.Mathlib.Omega.{arith}
-use borrow.Author.Needs.{needs}
-use Rattle.build.proofs.Present.{few-nodes}
+use borrow.Author.Tests.{leb-false, leb-true}
+use lib.ListN.{length}
+use Rattle.build.specs.Batch.{Record}
+use Rattle.build.specs.Standing.{Filling, State, Stepped, Turned, turnsLeft}
+use Rattle.build.specs.States.{emptied}
+use Rattle.build.proofs.TurnLoop.{Filled, emptied-filling, emptied-stepped, filled-ends, filled-filling, filled-onward, filled-starts}
 use Rattle.build.proofs.step.step.Statement.{statement}
 use Rattle.build.proofs.step.step.Tie as tie
 
-one-rule-requires : tie.Need-one-rule-requires
-one-rule-requires c κs = search needs
+abbrev Inv-loop : tie.InvT-loop
+Inv-loop input work₀ batch₀ s₀ work batch s =
+    (length batch ≡ length batch₀) × (length work ≡ length work₀)
+    × ((base : List Record) → Filling input s₀ work₀ batch₀ base → Filled input s₀ work₀ base s work batch)
 
-same-length : tie.Need-same-length
-same-length c = search needs
+abbrev μ-loop : tie.MeasureT-loop
+μ-loop input work₀ batch₀ s₀ work batch s = turnsLeft input s
 
-same-length-2 : tie.Need-same-length-2
-same-length-2 c = search needs
+-- the batch is empty where the loop begins
+begun : (c : tie.After-empty-batch Inv-loop μ-loop)
+    → let a = c .before .before .before .before .args in
+    Filling (a .input .now) (c .empty-batch .result) (a .work .now) (a .batch .now) (c .before .before .before .before .pre .0 .0)
+begun c =
+    let start = c .before .before .before .before in
+    let a = start .args in
+    subst (λ x. Filling (a .input .now) x (a .work .now) (a .batch .now) (start .pre .0 .0)) (sym (c .empty-batch .ensures))
+    (emptied-filling (a .input .now) (a .t) (a .work .now) (a .batch .now) (start .pre .0 .0) (start .pre .0 .1) (start .pre .0 .2))
 
-returns : tie.Need-returns
-returns c = search needs
+-- so the building stands in each turn
+standing : (c : tie.Then1 Inv-loop μ-loop)
+    → let l = c .before .before .before .loop in
+    let start = c .before .before .before .before .before .before .before .before in
+    Filling (start .args .input .now) (l .s) (l .work) (l .batch) (start .pre .0 .0)
+standing c =
+    let l = c .before .before .before .loop in
+    filled-filling _ _ _ _ (l .inv .2 _ (begun (c .before .before .before .before))) (c .before .before .loop-test .taken)
 
-add-if2 : tie.Need-add-if2
-add-if2 c =
-    let start = c .before .before .before .before .before .before in
-    let s = start .pre .0 .1 in
-    omega (arith, few-nodes (start .args .input .now) (start .args .t) (s .constants) (s .node))
+-- the step is done
+ended : (c : tie.At-loop Inv-loop μ-loop)
+    → let start = c .before .before .before .before .before in
+    let a = start .args in
+    ((c .loop .s .going ≡ false) ⊎ (324 < c .loop .s .count)) → Turned (a .input .now) (a .t) (a .work .now) (c .loop .s) (c .loop .work) (c .loop .batch)
+ended c stop made s few =
+    let begin = c .before in
+    let start = begin .before .before .before .before in
+    let a = start .args in
+    let e = begin .empty-batch .ensures in
+    emptied-stepped (a .input .now) (a .t) (a .work .now) (a .batch .now) made s
+    (subst (λ x. Stepped (a .input .now) x (a .work .now) made (c .loop .s) (c .loop .work) (c .loop .batch)) e
+    (filled-ends _ _ _ _ (c .loop .inv .2 made
+    (subst (λ x. Filling (a .input .now) x (a .work .now) (a .batch .now) made) (sym e)
+    (emptied-filling (a .input .now) (a .t) (a .work .now) (a .batch .now) made s few)))
+    (ap (λ x. x .going) e ∙ s .going) (ap (λ x. x .count) e) stop))
 
-next-node-requires : tie.Need-next-node-requires
-next-node-requires c κs = search needs
+empty-batch-requires : tie.Need-empty-batch-requires Inv-loop μ-loop
+empty-batch-requires c κs =
+    let start = c .before .before .before in
+    omega (arith, start .pre .0 .2, start .pre .0 .1 .constants .limit)
 
-same-length-3 : tie.Need-same-length-3
-same-length-3 c = search needs
+loop-holds : tie.Need-loop-holds Inv-loop μ-loop
+loop-holds c =
+    let a = c .before .before .before .before .args in
+    (refl, refl, λ base f. filled-starts (a .input .now) _ (a .work .now) base (a .batch .now) f (ap (λ x. x .count) (c .empty-batch .ensures)))
 
-returns-2 : tie.Need-returns-2
-returns-2 c =
-    let start = c .before .before .before .before .before .before .before .before .before .before .before .before in
-    c .before .before .next-node .ensures (start .args .batch .now)
+turn-requires : tie.Need-turn-requires Inv-loop μ-loop
+turn-requires c κs =
+    let t = c .before .before in
+    let start = t .before .before .before .before .before .before .before .before in
+    ((_, standing t), (omega (arith, start .pre .1, t .before .before .before .loop .inv .0), leb-true _ 324 (t .if1 .taken)))
 
-roots-requires : tie.Need-roots-requires
-roots-requires c κs = search needs
+loop-less : tie.Need-loop-less Inv-loop μ-loop
+loop-less c =
+    let turn = c .before .before .before .before in
+    turn .turn .ensures _ (standing (turn .before .before .before)) .falls
 
-same-length-4 : tie.Need-same-length-4
-same-length-4 c = search needs
+loop-again : tie.Need-loop-again Inv-loop μ-loop
+loop-again c =
+    let turn = c .before .before .before .before in
+    let test = turn .before .before .before .before .before in
+    let l = test .before .loop in (
+      turn .turn .kept .1 .1 .1 .0 ∙ l .inv .0,
+      turn .turn .kept .1 .1 .0 ∙ l .inv .1,
+      λ base f.
+          let r = l .inv .2 base f in
+          filled-onward _ _ _ _ r (turn .turn .ensures base (filled-filling _ _ _ _ r (test .loop-test .taken))),
+    )
 
-same-length-5 : tie.Need-same-length-5
-same-length-5 c = search needs
+same-length : tie.Need-same-length Inv-loop μ-loop
+same-length c = c .before .before .before .loop .inv .1
 
-returns-3 : tie.Need-returns-3
-returns-3 c = search needs
+same-length-2 : tie.Need-same-length-2 Inv-loop μ-loop
+same-length-2 c = c .before .before .before .loop .inv .0
+
+returns : tie.Need-returns Inv-loop μ-loop
+returns c = ended (c .before .before .before) (inr (leb-false _ 324 (c .if1 .left)))
+
+same-length-3 : tie.Need-same-length-3 Inv-loop μ-loop
+same-length-3 c = c .before .loop .inv .1
+
+same-length-4 : tie.Need-same-length-4 Inv-loop μ-loop
+same-length-4 c = c .before .loop .inv .0
+
+returns-2 : tie.Need-returns-2 Inv-loop μ-loop
+returns-2 c = ended (c .before) (inl (c .loop-test .left))
 
 pub step-spec : {M : Type 1} → statement M
 step-spec =
     tie.close
     (tie.spec
-    one-rule-requires
+    Inv-loop
+    μ-loop
+    empty-batch-requires
+    loop-holds
+    turn-requires
+    loop-less
+    loop-again
     same-length
     same-length-2
     returns
-    add-if2
-    next-node-requires
     same-length-3
-    returns-2
-    roots-requires
     same-length-4
-    same-length-5
-    returns-3)
+    returns-2)

@@ -43,6 +43,9 @@ cast-t12 c = omega (arith, small (c .before .before .before .before))
 cast-t13 : tie.Need-cast-t13
 cast-t13 c = omega (arith, c .before .before .before .flags .ensures, small (c .before .before .before .before))
 
+add-t10 : tie.Need-add-t10
+add-t10 c = omega (arith, small (c .before .before .before .before .before))
+
 cast-t14 : tie.Need-cast-t14
 cast-t14 c = omega (arith, small (c .before .before .before .before .before))
 
@@ -73,6 +76,7 @@ finish-spec =
     cast-t11
     cast-t12
     cast-t13
+    add-t10
     cast-t14
     same-length-2
     returns-2)

@@ -45,7 +45,7 @@ start-node-requires c κs =
     let a = start .args in (
       _,
       comes-first (a .input .now) (a .tree) (a .query) (facts start) _ (a .work .now) (a .entries) (c .before .record-limit .ensures)
-          refl refl refl refl refl refl refl
+          refl refl refl refl refl refl refl refl
           (asked-is (a .input .now) (a .tree) (a .query) (facts start) (wide .frame-width .ensures)) (c .before .before .if1 .left),
     )
 
@@ -62,7 +62,7 @@ returns-2 c =
     first-started (a .input .now) (a .tree) (a .query) (facts start) _ (a .work .now) (a .entries) (limit .record-limit .ensures)
     (come .start-node .ensures _
     (comes-first (a .input .now) (a .tree) (a .query) (facts start) _ (a .work .now) (a .entries) (limit .record-limit .ensures)
-    refl refl refl refl refl refl refl
+    refl refl refl refl refl refl refl refl
     (asked-is (a .input .now) (a .tree) (a .query) (facts start) (wide .frame-width .ensures)) (limit .before .if1 .left)))
 
 pub start-spec : {M : Type 1} → statement M
