@@ -121,7 +121,7 @@ root-ready input t work made s q hq = record {
         )
 
 module _ (input : List ℕ) (t : State) (work : List ℕ) (k : Constants input t) (q : ℕ) (m : Made) (more : t .count ≤ m .count)
-    (few : m .count ≤ t .count + q)    (at-hand : m .set ≤ t .from + m .count + 1) (batch : List ℕ) (found : Bool)
+    (few : m .count ≤ t .count + q) (at-hand : m .set ≤ t .from + m .count + 1) (batch : List ℕ) (found : Bool)
     (e : found ≡ has (acceptingOf (recordsOf (drop (t .rules) input))) q) where
   pub next-skipped : not found ≡ true → UnitesNext input t work q m batch m batch
   next-skipped none = record {

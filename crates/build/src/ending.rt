@@ -48,7 +48,10 @@ fn unite_roots(t: State, input: &[u8], work: &[u64], batch: &mut [u16]) -> Made
     requires { ⌜ (3240 ≤ length (now batch)) × (t .count ≤ 324) ⌝ }
     ensures { λ r. ⌜ UnitedTo (now (input .entry)) t (now (work .entry)) (t .states) (now (batch .entry)) r (now (batch .exit)) ⌝ }
 {
-    let mut made = Made { count: t.count, set: 0 };
+    let mut made = Made {
+        count: t.count,
+        set: 0,
+    };
     let mut state = 0;
     while state < t.states {
         made = unite_root(t, input, work, &mut *batch, made, state);

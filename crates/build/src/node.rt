@@ -34,7 +34,15 @@ fn leaf_rules(t: State, input: &[u8], work: &mut [u64], batch: &mut [u16]) -> St
     while rule < input.len() && count <= 324 {
         let flag = input[rule + 2] as usize;
         let to = row_at(t.arity, t.states, t.top, input[rule + 3] as usize);
-        count = leaf_rule(&mut *batch, &mut *work, count, t.from, t.node as u16, flag, to);
+        count = leaf_rule(
+            &mut *batch,
+            &mut *work,
+            count,
+            t.from,
+            t.node as u16,
+            flag,
+            to,
+        );
         rule = next_rule(input, rule + 1 + body_length(17), 17, label);
     }
     count_records(t, count, rule)

@@ -1,1 +1,4 @@
+pub mod HeadNumbers
 pub mod Telling
+pub mod Passing
+pub mod Outputs

@@ -23,7 +23,7 @@ use Rattle.table.proofs.Locals.{finish, full, enters, leaves, span}
 use Rattle.table.proofs.Entries.{Entry}
 use Rattle.table.proofs.Calls.{contract, calls}
 use Rattle.table.proofs.Lending.{at-list, Mine, Seen}
-use Rattle.paper.specs.Answers.{saysBuilt}
+use Rattle.paper.specs.Answers.{saysBuilt, told}
 use Rattle.paper.specs.declared.Built.{Built}
 use Rattle.paper.specs.declared.Record.{Record}
 use Rattle.paper.proofs.Built as B
@@ -33,12 +33,12 @@ use Rattle.build.proofs.build as build
 use Rattle.build.proofs.build.Symbol as build-def
 use Rattle.build.proofs.build.Symbol.{name as #build}
 use Rattle.build.proofs.build.Met as build-thm
-use Rattle.c.specs.Told.{code, headAfter, Tells}
-use Rattle.c.proofs.Telling.{tells}
-use Rattle.c.proofs.tell as tell
-use Rattle.c.proofs.tell.Symbol as tell-def
-use Rattle.c.proofs.tell.Symbol.{name as #tell}
-use Rattle.c.proofs.tell.Met as tell-thm
+use Rattle.c.specs.Told.{headNumbers, Tells, TellsBuild}
+use Rattle.c.proofs.Telling.{tells-build}
+use Rattle.c.proofs.tell_build as tell
+use Rattle.c.proofs.tell_build.Symbol as tell-def
+use Rattle.c.proofs.tell_build.Symbol.{name as #tell}
+use Rattle.c.proofs.tell_build.Met as tell-thm
 use Rattle.c.proofs.tarn_build.Key.{name as #tarn-build}
 use Rattle.c.proofs.tarn_build as tarn-build
 use Rattle.c.proofs.tarn_build.Statement as stated
@@ -99,7 +99,7 @@ module _ {M : Type 1} (𝓤 : URA M) (H : Heap 𝓤) (A : Atoms 𝓤) (W : Given
     Head-last h = fres γʰ (Array u16 6 .coded .code h)
 
     exits : (n : ℕ) → Is u8 n (vint w8 n ∷ []) → (w : List ℕ) (t : List Record) (h : List ℕ) → length w ≡ length work → length t ≡ length table
-        → Tells input work table head n w t h
+        → TellsBuild input work table head n w t h
         → ent 𝓤 (⋆ 𝓤 H A (‵ (flft κⁱ qⁱ) ∷ ‵ (flft κʷ qʷ) ∷ ‵ (flft κ q) ∷ ‵ (flft κʰ qʰ) ∷ ‵ (finally u64 γʷ w) ∷ ‵ (finally Entry γ t)
         ∷ ‵ (Head-last h) ∷ [])) (Post (vint w8 n))
     exits n good w t h work-long table-long e =
@@ -178,14 +178,14 @@ module _ {M : Type 1} (𝓤 : URA M) (H : Heap 𝓤) (A : Atoms 𝓤) (W : Given
           move ! (6 ∷ 5 ∷ []) $ group ! 2 $ use1 W (raw (Tell .pre (to-tell r))) (goes-tell r good) $
           calls ! (fmOf 𝓤 H (W .laws) 𝓣) tell.ended (tell.clauses 𝓤 H A mem run) known-tell (to-tell r) (vint w8) (uint-tells w8)
           (and-then ! (value ! 16 refl) (and-then ! (value ! 26 refl) (no-more !)))
-          (λ n hs good′. heard ! ((n ≡ code (saysBuilt r)) × (hs .1 .0 ≡ headAfter (saysBuilt r) head)) (λ f.
+          (λ n hs good′. heard ! (Tells (told headNumbers (saysBuilt r)) head n (hs .1 .0)) (λ f.
           use1 W (‵ (flft κʰ qʰ) ⊛ ‵ ftrue) (id⊢ 𝓤 _) $ split ! $ move ! (2 ∷ []) $ fsplit ! $ drop ! $ fsplit ! $
           -- [the head's last numbers; true; its token; true; the table's last list; the work's; the table's token; the input's; the work's; local j at 9 + 2 * j]
           land ! (from ! (stop !)) (init ! 9 refl (uint-lawful 𝓤 H A W w8 .typed n _ good′ .0)) $
           move ! (span 9 22) $ leaves ! (vint w8 n) (full _ ∷ full _ ∷ full _ ∷ full _ ∷ full _ ∷ full _ ∷ full _ ∷ full _ ∷ full _ ∷ full _ ∷ []) $
           keep ! (7 ∷ 8 ∷ 6 ∷ 2 ∷ 5 ∷ 4 ∷ 0 ∷ []) $
           by ! (exits n good′ (us .1 .0) (us .1 .1 .0) (hs .1 .0) work-long table-long
-          (tells input work table head r (us .1 .0) (us .1 .1 .0) n (hs .1 .0) e f)))))))))
+          (tells-build work n (us .1 .0) input table head r (us .1 .1 .0) (hs .1 .0) e f)))))))))
 
 pub tarn-build-spec : {M : Type 1} → stated.statement M
 unfolding code′.routine tablesOf
@@ -201,5 +201,5 @@ tarn-build-spec 𝓤 H 𝓜 𝓖 𝓡 =
     (a .1 .1 .0 .ptr .0) (a .1 .1 .0 .ptr .1) (a .1 .1 .0 .name) (a .1 .1 .0 .now)
     (a .1 .1 .1 .0 .ptr .0) (a .1 .1 .1 .0 .ptr .1) (a .1 .1 .1 .0 .name) (a .1 .1 .1 .0 .now) (tablesOf 𝓤 H 𝓜 (tables 𝓤 H 𝓜 𝓡 code′.env))
     (cited 𝓤 H (Build 𝓤 H (𝓖 .A) (givenOf 𝓤 H 𝓜 𝓖) (𝓜 .mem) (𝓡 .run)) 𝓜 𝓡 code′.env #build build-def.routine code′.calls-build·build (build-thm.met 𝓤 H 𝓜 𝓖 𝓡))
-    (cited 𝓤 H (Tell 𝓤 H (𝓖 .A) (givenOf 𝓤 H 𝓜 𝓖) (𝓜 .mem) (𝓡 .run)) 𝓜 𝓡 code′.env #tell tell-def.routine code′.calls-c·tell (tell-thm.met 𝓤 H 𝓜 𝓖 𝓡))
+    (cited 𝓤 H (Tell 𝓤 H (𝓖 .A) (givenOf 𝓤 H 𝓜 𝓖) (𝓜 .mem) (𝓡 .run)) 𝓜 𝓡 code′.env #tell tell-def.routine code′.calls-c·tell-build (tell-thm.met 𝓤 H 𝓜 𝓖 𝓡))
     (are .0 .0 .1) (are .1 .0 .0 .1) (are .1 .1 .0 .0 .1)))

@@ -127,9 +127,11 @@ loop-again c =
     let left = t .before .before .before .before .before .before in
     let next =
     ⊎-elim
-    (λ w. subst₃ (Next t) (sym (w .11)) (sym (w .12)) (sym (w .13))
-    (w .6 .kept .0 ∙ s .batch-kept, w .6 .kept .1 .0 ∙ s .work-kept,
-    with-split s (w .0 .taken) (left .set-in .ensures) (w .2 .ensures) (t .before .before .before .before .before .if1 .left) (w .3 .taken) _ _ _ (w .6 .ensures)))
+    (λ w. subst₃ (Next t) (sym (w .11)) (sym (w .12)) (sym (w .13)) (
+      w .6 .kept .0 ∙ s .batch-kept,
+      w .6 .kept .1 .0 ∙ s .work-kept,
+      with-split s (w .0 .taken) (left .set-in .ensures) (w .2 .ensures) (t .before .before .before .before .before .if1 .left) (w .3 .taken) _ _ _ (w .6 .ensures),
+    ))
     (λ v. ⊎-elim
     (λ w. subst₃ (Next t) (sym (w .4)) (sym (w .5)) (sym (w .6)) (s .batch-kept, s .work-kept, with-empty s (w .0 .taken) (sym (w .2 .ensures) ∙ w .3 .left)))
     (λ w. subst₃ (Next t) (sym (w .1)) (sym (w .2)) (sym (w .3)) (s .batch-kept, s .work-kept, with-shared s (w .0 .left)))
