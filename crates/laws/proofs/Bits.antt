@@ -2,7 +2,7 @@
 -- First the lowest bit and the others, then places, then flags without a place.
 use mathlib.Core.Bool.{_||_, false, true}
 use mathlib.Core.Logic.{_⊎_, inl, inr, ⊎-elim}
-use mathlib.Core.Path.{_∙_, _≡_}
+use mathlib.Core.Path.{_∙_, _≡_, refl}
 use Prim.Native.Nat.{_%_, _*_, _+_, _/_, _<_, _^_, _≤_, suc, zero, ℕ}
 use native.Mathlib.Omega.{arith}
 use borrow.Author.Tests.{eq-eqb, eqb-false, eqb-true, ne-eqb}
@@ -47,6 +47,11 @@ bit-sum (suc i) a b apart = rw (half-sum a b apart) (bit-sum i (a / 2) (b / 2) (
 pub bit-one : (i a b : ℕ) → bitAnd a b ≡ 0 → hasPlace a i ≡ true → hasPlace b i ≡ false
 bit-one zero a b apart e = ne-eqb (b % 2) 1 (λ w. omega (arith, lows a b apart, eqb-true (a % 2) 1 e))
 bit-one (suc i) a b apart e = bit-one i (a / 2) (b / 2) (halves a b apart) e
+
+-- the flag that has none
+pub no-places : (i : ℕ) → hasPlace 0 i ≡ false
+no-places zero = refl
+no-places (suc i) = no-places i
 
 -- ---- flags without a place
 -- leaving out a place goes through the sum of two flags that share no bit

@@ -75,7 +75,7 @@ module _ {A : Type 0} (eq : A → A → Bool) (true-eq : (x y : A) → eq x y �
 pub few-in-numbers : (ys xs : List ℕ) → Once xs → ((x : ℕ) → x ∈ xs → x ∈ ys) → length xs ≤ length ys
 few-in-numbers = few-in eqb eqb-true eq-eqb
 
-length-countFrom : (n k : ℕ) → length (countFrom k n) ≡ n
+pub length-countFrom : (n k : ℕ) → length (countFrom k n) ≡ n
 length-countFrom zero k = refl
 length-countFrom (suc n) k = ap suc (length-countFrom n (suc k))
 

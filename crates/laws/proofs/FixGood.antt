@@ -4,7 +4,7 @@ use mathlib.Core.Bool.{Bool, _&&_, cond, false, false≢true, not, true}
 use mathlib.Core.List.{List, List·Memᴰ·not-nil, [], _++_, _∷_}
 use mathlib.Core.Logic.{⊎-elim}
 use mathlib.Core.Path.{_∙_, _≡_, ap, ap₂, refl, subst, sym}
-use Prim.Native.Nat.{_+_, _-_, _<_, _≤_, suc, zero, ℕ}
+use Prim.Native.Nat.{_+_, _-_, _<_, _≤_, ℕ}
 use native.Mathlib.Omega.{arith}
 use borrow.Author.Tests.{le-leb, leb-true, lt-ltb}
 use lib.Dec.{T, eqb, leb}
@@ -19,7 +19,7 @@ use Rattle.paper.specs.Sound.{entry, sound}
 use Rattle.laws.specs.Fixings.{GoodSet, picked}
 use Rattle.laws.specs.Plain.{Head, Record, Set, at, empty, unit}
 use Rattle.laws.specs.QuestionRows.{IsUnion, SetFits, SoundAt, UnitTwice}
-use Rattle.laws.proofs.Bits.{without-lt}
+use Rattle.laws.proofs.Bits.{no-places, without-lt}
 use Rattle.laws.proofs.Bound.{one-product, one-single, one-union}
 use Rattle.laws.proofs.GoodSets.{HeadOver, good-number, good-once, good-sound, over-good, over-length, over-lists, used-over}
 use Rattle.laws.proofs.Images.{Images, images-stand, wanted, wanted-append, wanted-once}
@@ -59,10 +59,6 @@ images-length : (p n : ℕ) (rest : List Record) (z : List Record × List Set)
     → length ((through (imageStep p n) z rest) .0) ≤ length (z .0) + length rest
 images-length p n [] z = omega arith
 images-length p n (r ∷ rest) z = omega (arith, one-image p n (z .0) (z .1) r, images-length p n rest (imageStep p n z r))
-
-no-places : (i : ℕ) → hasPlace 0 i ≡ false
-no-places zero = refl
-no-places (suc i) = no-places i
 
 -- ---- the call
 module _ (h : Head) (table : List Record) (G : GoodSet h table) (place n : ℕ) (is-open : isOpen h place ≡ true) (node : n < h .nodes) where

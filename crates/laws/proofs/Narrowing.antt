@@ -1,5 +1,5 @@
 -- Narrowing a listing by fixings: picking one place first and narrowing by the others then is narrowing at once, and the order
--- of the fixings does not matter. After a fact about tests: blank places, then which rows stay, then listings.
+-- of the fixings does not matter. First blank places, then which rows stay, then listings.
 use mathlib.Core.Path.{_≡_, refl, sym, ap, ap₂, _∙_}
 use mathlib.Core.Logic.{⊎-elim}
 use mathlib.Core.Bool.{Bool, true, false, cond, _&&_}
@@ -12,14 +12,7 @@ use lib.Seq.{getD-set-other, set-set}
 use Rattle.paper.specs.Lists.{_∈_}
 use Rattle.paper.specs.Row.{Row, blank}
 use Rattle.laws.specs.Fixings.{picked, Fixing, hasNodes, blanked, narrowed, SameFixings}
-use Rattle.laws.proofs.Lists.{both-true, here}
-
--- ---- tests
--- two tests that hold together are the same
-same-test : (a b : Bool) → (a ≡ true → b ≡ true) → (b ≡ true → a ≡ true) → a ≡ b
-same-test true b h k = sym (h refl)
-same-test false true h k = k refl
-same-test false false h k = refl
+use Rattle.laws.proofs.Lists.{both-true, here, iff-eq}
 
 -- ---- blank places
 -- two places can be made blank in either order
@@ -74,7 +67,7 @@ each-has (f ∷ fs) row h = rw (h f here) (each-has fs row (λ g m. h g (List·M
 -- the same fixings in any order leave the same rows
 has-order : (fs gs : List Fixing) (row : Row) → SameFixings fs gs → hasNodes fs row ≡ hasNodes gs row
 has-order fs gs row s =
-    same-test (hasNodes fs row) (hasNodes gs row)
+    iff-eq (hasNodes fs row) (hasNodes gs row)
     (λ e. each-has gs row (λ f m. has-each fs row e f ((s f) .1 m)))
     (λ e. each-has fs row (λ f m. has-each gs row e f ((s f) .0 m)))
 

@@ -18,7 +18,7 @@ use Rattle.laws.specs.StreamRows.{written, ofKind, RuleKind, AllTree, Tr
 use Rattle.laws.specs.StreamRows.{QueryFault, no-head-first, second-head, unknown-kind, cut-record, head-out-of-range}
 use Rattle.laws.specs.StreamRows.{leaf-rule-out-of-range, branch-rule-out-of-range, state-out-of-range, many-rules}
 use Rattle.laws.specs.StreamRows.{SaidTwice, leaf-rule-twice, branch-rule-twice, state-twice}
-use Rattle.laws.proofs.Lists.{both-true, same-true, same-refl, here}
+use Rattle.laws.proofs.Lists.{both-true, or-right, same-true, same-refl, here}
 use Rattle.laws.proofs.Judged.{Judged, judged-none, judged-skip, judged-test}
 use Rattle.laws.proofs.Tests.{Fails, fails-at-most, fails-below, fails-and, fails-last, fails-between, passed-not}
 use Rattle.laws.proofs.StreamPlaces.{firstRecord, cut, not-cut, begins-with, made-of, no-tree-kind, tree-ends, tree-ends-nil, one-query, Counted}
@@ -113,10 +113,6 @@ module _ (before : List StreamRecord) (all : AllTree before) (counted : Counted 
       (λ w. head-whole-judged k more (eqb-true k 16 h) (not-cut k more w))))
 
 -- ---- the rules and the accepting states of the records so far
-or-right : (a b : Bool) → b ≡ true → a || b ≡ true
-or-right true b e = refl
-or-right false b e = e
-
 -- as many rules as records of the two kinds
 rules-counted : (rs : List StreamRecord) → length (rulesOf rs) ≡ ofKind 17 rs + ofKind 18 rs
 rules-counted [] = refl

@@ -2,16 +2,17 @@
 use mathlib.Core.Bool.{Bool, _||_, cond, false, true}
 use mathlib.Core.List.{List, [], _++_, _∷_}
 use mathlib.Core.Path.{_∙_, _≡_, ap, refl, sym}
-use Prim.Native.Nat.{_+_, _-_, _<_, _≤_, suc, zero, ℕ}
+use Prim.Native.Nat.{_+_, _-_, _<_, _≤_, suc, ℕ}
 use native.Mathlib.Numerals.{add-one}
 use native.Mathlib.Omega.{arith}
 use borrow.Author.Tests.{eqb-false, eqb-true, ltb-false, ltb-true, ne-eqb}
 use lib.Dec.{eqb, ltb}
 use lib.ListN.{List·getD-eq-default, getD, length, length-map, length-set, set, take}
 use lib.Seq.{getD-set-other, getD-set-same, getD-take, length-take-le, take-suc}
-use Rattle.paper.specs.Lists.{countFrom, has, upTo}
+use Rattle.paper.specs.Lists.{has, upTo}
 use Rattle.paper.specs.Refusals.{over}
 use Rattle.project.specs.Marks.{Kept, Marking, marksIn}
+use Rattle.laws.proofs.Counting.{length-countFrom}
 use Rattle.laws.proofs.Listed.{map-upTo}
 use Rattle.project.proofs.Clearing.{cleared, cleared-behind, cleared-length, cleared-zero}
 use Rattle.sound.proofs.Overwriting.{over-is, zeros-more}
@@ -93,10 +94,6 @@ has-none : (xs : List ℕ) (most n : ℕ) → ((k : ℕ) → k < length xs → g
 has-none [] most n small h = refl
 has-none (x ∷ xs) most n small h =
     rw (ne-eqb x n (λ e. omega (arith, small 0 (omega arith)))) (has-none xs most n (λ k w. small (suc k) (omega arith)) h)
-
-length-countFrom : (n k : ℕ) → length (countFrom k n) ≡ n
-length-countFrom zero k = refl
-length-countFrom (suc n) k = ap suc (length-countFrom n (suc k))
 
 module _ (work out : List ℕ) (n nodes : ℕ) (kept : Kept work n nodes) (fits : nodes ≤ length out) where
   abbrev marks : List ℕ

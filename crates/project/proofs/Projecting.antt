@@ -1,6 +1,6 @@
 -- The pass from the root, from beginning to end: the cells keep exactly the nodes that stand at the place in some row of the set, so the
 -- bytes that they give are the paper's marks.
-use mathlib.Core.Bool.{Bool, _&&_, cond, false, false≢true, true}
+use mathlib.Core.Bool.{Bool, _&&_, cond, false≢true, true}
 use mathlib.Core.List.{List, List·Memᴰ·not-nil, [], _∷_, map}
 use mathlib.Core.Logic.{Iff·symm, Iff·trans, _↔_, ⊎-elim}
 use mathlib.Core.Path.{_∙_, _≡_, ap, refl, sym}
@@ -20,6 +20,7 @@ use Rattle.paper.specs.Records.{listing, listings, setRows, usedOf}
 use Rattle.paper.specs.Refusals.{isOpen}
 use Rattle.laws.specs.QuestionRows.{SetFits, Sound}
 use Rattle.laws.proofs.Listed.{row-stands, stands-row}
+use Rattle.laws.proofs.Bits.{no-places}
 use Rattle.laws.proofs.Lists.{both-true, iff-eq, or-cases, or-left, or-right, which}
 use Rattle.project.specs.Marks.{Kept, marksIn}
 use Rattle.project.specs.Passing.{passed, turnsLeft}
@@ -46,10 +47,6 @@ same-bytes : (p q : ℕ → Bool) (n k : ℕ) → ((m : ℕ) → m < k + n → p
     → map {B = ℕ} (λ m. cond (p m) 1 0) (countFrom k n) ≡ map (λ m. cond (q m) 1 0) (countFrom k n)
 same-bytes p q zero k agree = refl
 same-bytes p q (suc n) k agree = rw (agree k (omega arith), same-bytes p q n (suc k) (λ m w. agree m (omega arith)))
-
-no-places : (i : ℕ) → hasPlace 0 i ≡ false
-no-places zero = refl
-no-places (suc i) = no-places i
 
 module _ (h : Head) (table : List Record) (S : Sound h table) (place : ℕ) (opened : isOpen h place ≡ true) where
   abbrev i : ℕ

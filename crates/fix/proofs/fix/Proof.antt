@@ -27,6 +27,8 @@ use Rattle.paper.proofs.Fixed.Laws as F′
 use Rattle.sound.specs.declared.Weighed.{Weighed}
 use Rattle.sound.specs.Face.{Weighs}
 use Rattle.sound.proofs.Heads.{head, weighed}
+use Rattle.sound.proofs.Weighing as Weighing
+use Rattle.sound.proofs.Weighing.{handed-over, is-handed}
 use Rattle.fix.specs.Face.{Fixes}
 use Rattle.fix.specs.Passes.{MayImage, ImagesDone, MayRecord, RecordsDone}
 use Rattle.fix.specs.States.{State, restarted}
@@ -84,7 +86,7 @@ batch = copies 5 0
 module _ {M : Type 1} (𝓤 : URA M) (H : Heap 𝓤) (A : Atoms 𝓤) (W : Given 𝓤 H A) (mem : Memory → SProp 𝓤) (run : Routine → Fun 𝓤) where
   -- the contracts of the six functions that it calls
   abbrev Weigh : Contract 𝓤
-  Weigh = contract 𝓤 H A weigh.ended (weigh.clauses 𝓤 H A mem run)
+  Weigh = Weighing.Weigh 𝓤 H A W mem run
 
   abbrev Begin : Contract 𝓤
   Begin = contract 𝓤 H A begin.ended (begin.clauses 𝓤 H A mem run)
@@ -150,25 +152,7 @@ module _ {M : Type 1} (𝓤 : URA M) (H : Heap 𝓤) (A : Atoms 𝓤) (W : Given
 
     -- ---- the calls
     abbrev to-weigh : ℕ → GName → Weigh .Ghost
-    to-weigh ν δ = (
-      (
-        (κ, (ν ∷ [], tt)),
-        (q, (fullShare, tt)),
-        tt,
-        (h, (at-list Entry b o γ source, (at-list u64 bʷ oʷ δ work, tt))),
-        (head .low h ∷ [], (source-slice ∷ [], (work-slice ∷ [], tt))),
-      ),
-      tt,
-    )
-
-    goes-weigh : Good head h → (ν : ℕ) (δ : GName)
-        → ent 𝓤 (⋆ 𝓤 H A (‵ (flft κ q) ∷ ‵ (flft (ν ∷ []) fullShare) ∷ ‵ Source ∷ ‵ (Mine u64 bʷ oʷ (ν ∷ []) δ (length work) work) ∷ []))
-        (Weigh .pre (to-weigh ν δ))
-    goes-weigh good ν δ =
-        qed W (‵ (flft κ q) ∷ ‵ (flft (ν ∷ []) fullShare) ∷ ‵ Source ∷ ‵ (Mine u64 bʷ oʷ (ν ∷ []) δ (length work) work) ∷ []) ∵
-        nothing ! $ move ! (2 ∷ 0 ∷ []) $ join ! $ move ! (1 ∷ 0 ∷ []) $ join ! $
-        nothing ! $ move ! (3 ∷ 0 ∷ []) $ fjoin ! $ move ! (2 ∷ 0 ∷ []) $ fjoin ! $ owns-value head ! h good $ fjoin ! $
-        nothing ! $ move ! (2 ∷ 1 ∷ 0 ∷ []) $ join ! $ join ! $ done !
+    to-weigh = handed-over 𝓤 H A W mem run κ q h b o γ source bʷ oʷ work
 
     abbrev to-begin : Weighed → Begin .Ghost
     to-begin r = (
@@ -427,7 +411,7 @@ module _ {M : Type 1} (𝓤 : URA M) (H : Heap 𝓤) (A : Atoms 𝓤) (W : Given
           move ! (6 ∷ []) $
           use1 W (‵ Source ⊛ ‵ Source) (shr-slice-copy 𝓤 H A W (named 0) κ Entry .twice (at-list Entry b o γ source) (source-slice ∷ [])) $
           split ! $ move ! (8 ∷ 2 ∷ 0 ∷ 3 ∷ []) $ group ! 4 $
-          use1 W (raw (Weigh .pre (to-weigh ν δ))) (goes-weigh head-good ν δ) $
+          use1 W (raw (Weigh .pre (to-weigh ν δ))) (is-handed 𝓤 H A W mem run κ q h b o γ source bʷ oʷ work head-good ν δ) $
           calls ! (fmOf 𝓤 H (W .laws) 𝓣) weigh.ended (weigh.clauses 𝓤 H A mem run) known-weigh (to-weigh ν δ) (weighed .low) (weighed .tells)
           (and-then ! (value ! 8 refl) (and-then ! (value ! 10 refl) (and-then ! (value ! 36 refl) (no-more !))))
           (λ r us good. heard ! (Weighs h source work r (us .1 .1 .0)) (λ e.

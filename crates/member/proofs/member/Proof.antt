@@ -24,6 +24,8 @@ use Rattle.paper.proofs.Member.Laws as A′
 use Rattle.sound.specs.declared.Weighed.{Weighed}
 use Rattle.sound.specs.Face.{Weighs}
 use Rattle.sound.proofs.Heads.{head, weighed}
+use Rattle.sound.proofs.Weighing as Weighing
+use Rattle.sound.proofs.Weighing.{handed-over, is-handed}
 use Rattle.sound.proofs.weigh as weigh
 use Rattle.sound.proofs.weigh.Symbol as weigh-def
 use Rattle.sound.proofs.weigh.Symbol.{name as #weigh}
@@ -66,7 +68,7 @@ stayed = (gone (by-value (head .type)), (gone (shown 0 tt Entry), (still 1 tt u6
 module _ {M : Type 1} (𝓤 : URA M) (H : Heap 𝓤) (A : Atoms 𝓤) (W : Given 𝓤 H A) (mem : Memory → SProp 𝓤) (run : Routine → Fun 𝓤) where
   -- the contracts of the four functions that it calls
   abbrev Weigh : Contract 𝓤
-  Weigh = contract 𝓤 H A weigh.ended (weigh.clauses 𝓤 H A mem run)
+  Weigh = Weighing.Weigh 𝓤 H A W mem run
 
   abbrev Begin : Contract 𝓤
   Begin = contract 𝓤 H A begin.ended (begin.clauses 𝓤 H A mem run)
@@ -127,25 +129,7 @@ module _ {M : Type 1} (𝓤 : URA M) (H : Heap 𝓤) (A : Atoms 𝓤) (W : Given
 
     -- ---- the calls
     abbrev to-weigh : ℕ → GName → Weigh .Ghost
-    to-weigh ν δ = (
-      (
-        (κ, (ν ∷ [], tt)),
-        (q, (fullShare, tt)),
-        tt,
-        (h, (at-list Entry b o γ table, (at-list u64 bʷ oʷ δ work, tt))),
-        (head-value ∷ [], (table-slice ∷ [], (work-slice ∷ [], tt))),
-      ),
-      tt,
-    )
-
-    goes-weigh : Good head h → (ν : ℕ) (δ : GName)
-        → ent 𝓤 (⋆ 𝓤 H A (‵ (flft κ q) ∷ ‵ (flft (ν ∷ []) fullShare) ∷ ‵ Table ∷ ‵ (Mine u64 bʷ oʷ (ν ∷ []) δ (length work) work) ∷ []))
-        (Weigh .pre (to-weigh ν δ))
-    goes-weigh good ν δ =
-        qed W (‵ (flft κ q) ∷ ‵ (flft (ν ∷ []) fullShare) ∷ ‵ Table ∷ ‵ (Mine u64 bʷ oʷ (ν ∷ []) δ (length work) work) ∷ []) ∵
-        nothing ! $ move ! (2 ∷ 0 ∷ []) $ join ! $ move ! (1 ∷ 0 ∷ []) $ join ! $
-        nothing ! $ move ! (3 ∷ 0 ∷ []) $ fjoin ! $ move ! (2 ∷ 0 ∷ []) $ fjoin ! $ owns-value head ! h good $ fjoin ! $
-        nothing ! $ move ! (2 ∷ 1 ∷ 0 ∷ []) $ join ! $ join ! $ done !
+    to-weigh = handed-over 𝓤 H A W mem run κ q h b o γ table bʷ oʷ work
 
     abbrev to-begin : Weighed → Begin .Ghost
     to-begin g = (
@@ -309,7 +293,7 @@ module _ {M : Type 1} (𝓤 : URA M) (H : Heap 𝓤) (A : Atoms 𝓤) (W : Given
           lends ! tt u64 bʷ oʷ work (length work) refl (λ ν δ.
           move ! (4 ∷ []) $ use1 W (‵ Table ⊛ ‵ Table) (shr-slice-copy 𝓤 H A W (named 0) κ Entry .twice (at-list Entry b o γ table) (table-slice ∷ [])) $
           split ! $ move ! (6 ∷ 2 ∷ 0 ∷ 3 ∷ []) $ group ! 4 $
-          use1 W (raw (Weigh .pre (to-weigh ν δ))) (goes-weigh head-good ν δ) $
+          use1 W (raw (Weigh .pre (to-weigh ν δ))) (is-handed 𝓤 H A W mem run κ q h b o γ table bʷ oʷ work head-good ν δ) $
           calls ! (fmOf 𝓤 H (W .laws) 𝓣) weigh.ended (weigh.clauses 𝓤 H A mem run) known-weigh (to-weigh ν δ) (weighed .low) (weighed .tells)
           (and-then ! (value ! 8 refl) (and-then ! (value ! 10 refl) (and-then ! (value ! 24 refl) (no-more !))))
           (λ g us good. heard ! (Weighs h table work g (us .1 .1 .0)) (λ e.

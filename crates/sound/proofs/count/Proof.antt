@@ -24,6 +24,8 @@ use Rattle.sound.specs.Face.{Counts, Weighs}
 use Rattle.sound.specs.Weights.{Weighed}
 use Rattle.sound.proofs.Counting.{face}
 use Rattle.sound.proofs.Heads.{head, weighed}
+use Rattle.sound.proofs.Weighing as Weighing
+use Rattle.sound.proofs.Weighing.{handed-over, is-handed}
 use Rattle.sound.proofs.weigh as weigh
 use Rattle.sound.proofs.weigh.Symbol as weigh-def
 use Rattle.sound.proofs.weigh.Symbol.{name as #weigh}
@@ -46,7 +48,7 @@ stayed = (gone (by-value (head .type)), (gone (shown 0 tt Entry), (still 1 tt u6
 module _ {M : Type 1} (𝓤 : URA M) (H : Heap 𝓤) (A : Atoms 𝓤) (W : Given 𝓤 H A) (mem : Memory → SProp 𝓤) (run : Routine → Fun 𝓤) where
   -- the contracts of the two functions that it calls
   abbrev Weigh : Contract 𝓤
-  Weigh = contract 𝓤 H A weigh.ended (weigh.clauses 𝓤 H A mem run)
+  Weigh = Weighing.Weigh 𝓤 H A W mem run
 
   abbrev Finish : Contract 𝓤
   Finish = contract 𝓤 H A finish′.ended (finish′.clauses 𝓤 H A mem run)
@@ -91,25 +93,7 @@ module _ {M : Type 1} (𝓤 : URA M) (H : Heap 𝓤) (A : Atoms 𝓤) (W : Given
 
     -- ---- the calls
     abbrev to-weigh : ℕ → GName → Weigh .Ghost
-    to-weigh ν δ = (
-      (
-        (κ, (ν ∷ [], tt)),
-        (q, (fullShare, tt)),
-        tt,
-        (h, (at-list Entry b o γ table, (at-list u64 bʷ oʷ δ work, tt))),
-        (head .low h ∷ [], (table-slice ∷ [], (work-slice ∷ [], tt))),
-      ),
-      tt,
-    )
-
-    goes-weigh : Good head h → (ν : ℕ) (δ : GName)
-        → ent 𝓤 (⋆ 𝓤 H A (‵ (flft κ q) ∷ ‵ (flft (ν ∷ []) fullShare) ∷ ‵ Table ∷ ‵ (Mine u64 bʷ oʷ (ν ∷ []) δ (length work) work) ∷ []))
-        (Weigh .pre (to-weigh ν δ))
-    goes-weigh good ν δ =
-        qed W (‵ (flft κ q) ∷ ‵ (flft (ν ∷ []) fullShare) ∷ ‵ Table ∷ ‵ (Mine u64 bʷ oʷ (ν ∷ []) δ (length work) work) ∷ []) ∵
-        nothing ! $ move ! (2 ∷ 0 ∷ []) $ join ! $ move ! (1 ∷ 0 ∷ []) $ join ! $
-        nothing ! $ move ! (3 ∷ 0 ∷ []) $ fjoin ! $ move ! (2 ∷ 0 ∷ []) $ fjoin ! $ owns-value head ! h good $ fjoin ! $
-        nothing ! $ move ! (2 ∷ 1 ∷ 0 ∷ []) $ join ! $ join ! $ done !
+    to-weigh = handed-over 𝓤 H A W mem run κ q h b o γ table bʷ oʷ work
 
     abbrev to-finish : Weighed → List ℕ → ℕ → GName → Finish .Ghost
     to-finish v w ν δ = (
@@ -145,7 +129,7 @@ module _ {M : Type 1} (𝓤 : URA M) (H : Heap 𝓤) (A : Atoms 𝓤) (W : Given
           move ! (18 ∷ 19 ∷ []) $ split3 ! $ move ! (3 ∷ []) $ fsplit ! $ drop ! $ fsplit ! $ move ! (1 ∷ []) $ fsplit ! $
           -- [the work; true; the table; its token; the work's; true; local j at 6 + 2 * j]
           move ! (0 ∷ 4 ∷ []) $ lends ! tt u64 bʷ oʷ work (length work) refl (λ ν δ.
-          move ! (6 ∷ 0 ∷ 5 ∷ 1 ∷ []) $ group ! 4 $ use1 W (raw (Weigh .pre (to-weigh ν δ))) (goes-weigh head-good ν δ) $
+          move ! (6 ∷ 0 ∷ 5 ∷ 1 ∷ []) $ group ! 4 $ use1 W (raw (Weigh .pre (to-weigh ν δ))) (is-handed 𝓤 H A W mem run κ q h b o γ table bʷ oʷ work head-good ν δ) $
           calls ! (fmOf 𝓤 H (W .laws) 𝓣) weigh.ended (weigh.clauses 𝓤 H A mem run) known-weigh (to-weigh ν δ) (weighed .low) (weighed .tells)
           (and-then ! (value ! 7 refl) (and-then ! (value ! 9 refl) (and-then ! (value ! 17 refl) (no-more !))))
           (λ v ws good. heard ! (Weighs h table work v (ws .1 .1 .0)) (λ weighs.
