@@ -1,0 +1,250 @@
+-- The loop over the rows, on plain values. First how far the text is told, as a line is put; then what `row` answers; then what holds before each
+-- turn, that a turn keeps it, and what it says where the loop ends.
+use mathlib.Core.Bool.{Bool, false, true, true≢false}
+use mathlib.Core.List.{List, [], _++_, append-assoc, append-nil}
+use mathlib.Core.Path.{_∙_, _≡_, ap, refl, subst, sym}
+use Prim.Native.Nat.{_+_, _-_, _<_, _^_, _≤_, ℕ}
+use native.Mathlib.Omega.{arith}
+use borrow.Author.Tests.{le-leb, leb-false, leb-true, lt-ltb, ltb-false, ltb-true}
+use lib.Dec.{leb, ltb}
+use lib.ListN.{drop, getD, length, length-append, take}
+use lib.Seq.{take-at}
+use Rattle.paper.specs.declared.Head.{Head}
+use Rattle.paper.specs.declared.Record.{Record}
+use Rattle.paper.specs.declared.Written.{Written}
+use Rattle.paper.specs.Answers.{saysWritten, told}
+use Rattle.paper.specs.Lists.{_∈_}
+use Rattle.paper.specs.Questions.{countOf, rowNumbered}
+use Rattle.paper.specs.Records.{listing}
+use Rattle.paper.specs.Refusals.{Reply, answer, outputAfter, over, rowByNumber, rowTests}
+use Rattle.paper.specs.Row.{Row}
+use Rattle.laws.specs.QuestionRows.{Sound}
+use Rattle.laws.proofs.Replies.{answers}
+use Rattle.laws.proofs.SoundTest.{sound-is}
+use Rattle.row.specs.Face.{Numbers}
+use Rattle.row.proofs.RowNumbers.{row-listed}
+use Rattle.list.specs.declared.page.Page.{Page}
+use Rattle.list.specs.Listing.{Going, Listable, Ready, Roomy, Rows, Tells, linesTo, setText}
+use Rattle.list.specs.Page.{Linable, Lines, RowThere, emptied, lined, roomy}
+use Rattle.list.specs.Text.{Puts, lineText, linesText}
+use Rattle.list.proofs.LinesText.{line-short, to-all, to-more, to-short, to-whole}
+use Rattle.list.proofs.SoundRows.{rows-few, rows-long}
+use Rattle.list.proofs.Waiting.{waits-room}
+
+-- ---- how far the text is told
+-- what waits may be written: then it is told
+empty-tells : (far rest : List ℕ) (t : Page) (text : List ℕ) → Tells (far ++ rest) far t text → Tells (far ++ rest) far (emptied t) text
+empty-tells far rest t text T = record {
+  next = append-nil (take (t .told + t .bytes) (far ++ rest)) ∙ take-at far rest (t .told + t .bytes) (sym (T .bytes));
+  bytes = omega (arith, T .bytes);
+  within = omega arith;
+}
+
+room-tells : (far rest : List ℕ) (t : Page) (text : List ℕ) → Tells (far ++ rest) far t text → Tells (far ++ rest) far (roomy (length text) t) text
+room-tells far rest t text T = go (leb 85 (length text - t .bytes)) refl
+  where
+    go : (c : Bool) → leb 85 (length text - t .bytes) ≡ c → Tells (far ++ rest) far (roomy (length text) t) text
+    go true e = rw e T
+    go false e = rw e (empty-tells far rest t text T)
+
+-- a line is put behind what waits
+line-tells : (whole far line : List ℕ) (u : Page) (text : List ℕ) (end : ℕ) (text′ : List ℕ) → Tells whole far u text
+    → Puts line (u .bytes) text end text′ → end ≤ length text′ → Tells whole (far ++ line) (lined u end) text′
+line-tells whole far line u text end text′ T P fits = record {
+  next = ap (λ (bytes : List ℕ). take (u .told) whole ++ bytes) (P .stands)
+      ∙ sym (append-assoc (take (u .told) whole) (take (u .bytes) text) line)
+      ∙ ap (λ (bytes : List ℕ). bytes ++ line) (T .next);
+  bytes = omega (arith, T .bytes, P .ends, length-append far line);
+  within = fits;
+}
+
+-- what is left as it was where room is made
+pub record Same (t u : Page) : Type 0 where
+  pub number : u .number ≡ t .number
+  pub rows : u .rows ≡ t .rows
+  pub places : u .places ≡ t .places
+
+room-same : (room : ℕ) (t : Page) → Same t (roomy room t)
+room-same room t = go (leb 85 (room - t .bytes)) refl
+  where
+    go : (c : Bool) → leb 85 (room - t .bytes) ≡ c → Same t (roomy room t)
+    go true e = rw e (record { number = refl; rows = refl; places = refl })
+    go false e = rw e (record { number = refl; rows = refl; places = refl })
+
+-- ---- a row by number
+module _ (h : Head) (table : List Record) (cells : ℕ) (able : Listable h table cells) where
+  is-sound : Sound h table
+  is-sound = sound-is h table (able .is-sound)
+
+  four : (row : Row) → row ∈ listing h table → length row ≤ 4
+  four row m = omega (arith, rows-long h table is-sound row m, is-sound .few-places)
+
+  module _ (n : ℕ) (below : n < countOf h table) where
+    row-long : length (rowNumbered h table n) ≡ h .arity
+    row-long = rows-long h table is-sound (rowNumbered h table n) (row-listed (listing h table) n below)
+
+    row-answered : rowByNumber h table cells n 4 ≡ answer (rowNumbered h table n)
+    row-answered =
+        answers (rowTests h table cells n 4) (rowNumbered h table n)
+        (le-leb (h .used) cells (able .enough), (able .is-sound, (lt-ltb n (countOf h table) below, (le-leb (h .arity) 4 (is-sound .few-places), tt))))
+
+    module _ (work out : List ℕ) (long : length work ≡ cells) (places : length out ≡ 4) (r : Written) (work′ out′ : List ℕ)
+        (N : Numbers h table work n out r work′ out′) where
+      reply : rowByNumber h table (length work) n (length out) ≡ answer (rowNumbered h table n)
+      reply =
+          ap (λ (k : ℕ). rowByNumber h table k n (length out)) long ∙ ap (λ (k : ℕ). rowByNumber h table cells n k) places ∙ row-answered
+
+      row-said : saysWritten r ≡ answer tt
+      row-said = N .answer ∙ ap (told (λ _. tt)) reply
+
+      row-stands : out′ ≡ over (rowNumbered h table n) out
+      row-stands = N .written ∙ ap (λ (a : Reply Row). outputAfter a out) reply
+
+      row-taken : take (h .arity) out′ ≡ rowNumbered h table n
+      row-taken = ap (take (h .arity)) row-stands ∙ take-at (rowNumbered h table n) (drop (length (rowNumbered h table n)) out) (h .arity) row-long
+
+      row-fits : h .arity ≤ length out′
+      row-fits = omega (arith, ap length row-stands, length-append (rowNumbered h table n) (drop (length (rowNumbered h table n)) out), row-long)
+
+-- ---- the loop
+-- what it has in hand
+pub record Hand : Type 0 where
+  pub page : Page
+  pub work : List ℕ
+  pub row : List ℕ
+  pub text : List ℕ
+
+-- how many rows are left
+abbrev pub falls : Hand → ℕ
+falls x = x .page .rows - x .page .number
+
+module _ (h : Head) (table : List Record) (s : Page) (text : List ℕ) where
+  pub record Before (x : Hand) : Type 0 where
+    pub room : Roomy (x .page) (x .text)
+    pub none : s .going ≡ false → (x .page ≡ s) × (x .text ≡ text)
+    pub goes : s .going ≡ true → Listable h table (length (x .work)) × Going h table (x .page) (x .text)
+
+  pub starts : (work row : List ℕ) → Ready h table s work text → Before (record { page = s; work = work; row = row; text = text })
+  starts work row ready = record { room = ready .room; none = λ _. (refl, refl); goes = ready .goes }
+
+  pub stops : (x : Hand) → Before x → x .page .going ≡ false → Rows h table s text (x .page) (x .text)
+  stops x B e = record {
+    none = B .none;
+    all = λ on.
+        let G = B .goes on .1 in
+        let last : x .page .number ≡ countOf h table = omega (arith, G .number, G .rows, ltb-false (x .page .number) (x .page .rows) (sym (G .more) ∙ e)) in
+        subst (λ (far : List ℕ). Tells (setText h table) far (x .page) (x .text)) (to-all h table (x .page .number) last) (G .tells);
+  }
+
+  -- a turn
+  module _ (x : Hand) (B : Before x) (goes-on : x .page .going ≡ true) (places : length (x .row) ≡ 4) (r : Written) (w′ o′ : List ℕ)
+      (N : Numbers h table (x .work) (x .page .number) (x .row) r w′ o′) where
+    abbrev t : Page
+    t = x .page
+
+    on : s .going ≡ true
+    on = go (s .going) refl
+      where
+        go : (c : Bool) → s .going ≡ c → s .going ≡ true
+        go true e = e
+        go false e = absurd (true≢false (sym goes-on ∙ ap (λ (p : Page). p .going) (B .none e .0) ∙ e))
+
+    able : Listable h table (length (x .work))
+    able = B .goes on .0
+
+    G : Going h table t (x .text)
+    G = B .goes on .1
+
+    next : t .number < t .rows
+    next = ltb-true (t .number) (t .rows) (sym (G .more) ∙ goes-on)
+
+    below : t .number < countOf h table
+    below = omega (arith, next, G .rows)
+
+    said : saysWritten r ≡ answer tt
+    said = row-said h table (length (x .work)) able (t .number) below (x .work) (x .row) refl places r w′ o′ N
+
+    there : RowThere (t .places) (saysWritten r) o′
+    there =
+        subst (λ (a : Reply (Unit {0})). RowThere (t .places) a o′) (sym said)
+        (omega (arith, G .places, is-sound h table (length (x .work)) able .few-places), omega (arith, G .places, row-fits h table (length (x .work)) able (t .number) below (x .work) (x .row) refl places r w′ o′ N))
+
+    pub asks : Linable t (saysWritten r) o′ (x .text)
+    asks = record {
+      long = B .room .long;
+      short = B .room .short;
+      within = B .room .within;
+      countable = omega (arith, G .tells .bytes, to-short h table (four h table (length (x .work)) able) (t .number) (omega (arith, below)), below, rows-few h table (is-sound h table (length (x .work)) able));
+      next = next;
+      there = there;
+    }
+
+    -- the line of the row is put behind what waits, or what waits is written before
+    module _ (t′ : Page) (m′ : List ℕ) (work-long : length w′ ≡ length (x .work)) (text-long : length m′ ≡ length (x .text))
+        (L : Lines t (saysWritten r) o′ (x .text) t′ m′) where
+      abbrev room : Page
+      room = roomy (length (x .text)) t
+
+      abbrev line : List ℕ
+      line = lineText (take (t .places) o′)
+
+      put : Puts line (room .bytes) (x .text) (t′ .bytes) m′ × (t′ ≡ lined room (t′ .bytes))
+      put = subst (λ (a : Reply (Unit {0})). Lines t a o′ (x .text) t′ m′) said L
+
+      same : Same t room
+      same = room-same (length (x .text)) t
+
+      taken : take (t .places) o′ ≡ rowNumbered h table (t .number)
+      taken =
+          ap (λ (k : ℕ). take k o′) (G .places)
+          ∙ row-taken h table (length (x .work)) able (t .number) below (x .work) (x .row) refl places r w′ o′ N
+
+      fits : t′ .bytes ≤ length m′
+      fits =
+          omega (
+            arith,
+            put .0 .ends,
+            line-short (take (t .places) o′) (omega (arith, ap length taken, row-long h table (length (x .work)) able (t .number) below, is-sound h table (length (x .work)) able .few-places)),
+            waits-room (length (x .text)) t (B .room .long) (B .room .within),
+            text-long,
+          )
+
+      -- the text is told up to this row
+      tells-more : Tells (setText h table) (linesTo h table (room .number + 1)) (lined room (t′ .bytes)) m′
+      tells-more =
+          subst (λ (far : List ℕ). Tells (setText h table) far (lined room (t′ .bytes)) m′) one-more
+          (line-tells (setText h table) (linesTo h table (t .number)) line room (x .text) (t′ .bytes) m′ with-room (put .0) fits)
+        where
+          rest : List ℕ
+          rest = linesText (drop (t .number) (listing h table))
+
+          with-room : Tells (setText h table) (linesTo h table (t .number)) room (x .text)
+          with-room =
+              subst (λ (whole : List ℕ). Tells whole (linesTo h table (t .number)) room (x .text)) (sym (to-whole h table (t .number)))
+              (room-tells (linesTo h table (t .number)) rest t (x .text)
+              (subst (λ (whole : List ℕ). Tells whole (linesTo h table (t .number)) t (x .text)) (to-whole h table (t .number)) (G .tells)))
+
+          one-more : linesTo h table (t .number) ++ line ≡ linesTo h table (room .number + 1)
+          one-more =
+              ap (λ (row : Row). linesTo h table (t .number) ++ lineText row) taken ∙ sym (to-more h table (t .number) below)
+              ∙ ap (λ (k : ℕ). linesTo h table (k + 1)) (sym (same .number))
+
+      goes-further : Going h table (lined room (t′ .bytes)) m′
+      goes-further = record {
+        places = same .places ∙ G .places;
+        rows = same .rows ∙ G .rows;
+        number = omega (arith, same .number, same .rows, next);
+        more = refl;
+        tells = tells-more;
+      }
+
+      pub onward : Before (record { page = t′; work = w′; row = o′; text = m′ }) × (t′ .rows - t′ .number < falls x)
+      onward =
+          subst (λ (p : Page). Before (record { page = p; work = w′; row = o′; text = m′ }) × (p .rows - p .number < falls x)) (sym (put .1)) (
+            record {
+              room = record { long = omega (arith, B .room .long, text-long); short = omega (arith, B .room .short, text-long); within = fits };
+              none = λ off. absurd (true≢false (sym on ∙ off));
+              goes = λ _. (record { enough = omega (arith, able .enough, work-long); is-sound = able .is-sound }, goes-further);
+            },
+            omega (arith, same .number, same .rows, next),
+          )

@@ -1,0 +1,43 @@
+-- `page::facts` puts the two lines before the rows.
+use native.Mathlib.Omega.{arith}
+use borrow.Author.Needs.{needs}
+use Rattle.list.specs.Text.{recordsWord, rowsWord}
+use Rattle.list.proofs.Putting.{fact-short, puts-then}
+use Rattle.list.proofs.page.facts.Statement.{statement}
+use Rattle.list.proofs.page.facts.Tie as tie
+
+slice-aggregate-put-fact : tie.Need-slice-aggregate-put-fact
+slice-aggregate-put-fact c = search needs
+
+cast-put-fact : tie.Need-cast-put-fact
+cast-put-fact c = search needs
+
+put-fact-requires : tie.Need-put-fact-requires
+put-fact-requires c κs = search needs
+
+slice-aggregate-put-fact-2 : tie.Need-slice-aggregate-put-fact-2
+slice-aggregate-put-fact-2 c = search needs
+
+put-fact-requires-2 : tie.Need-put-fact-requires-2
+put-fact-requires-2 c κs =
+    let start = c .before .before .before .before .before .before .before .before .before in
+    let call = c .before .before .before .before .put-fact in
+    (omega arith, (omega (arith, call .ensures .ends, fact-short recordsWord (start .args .head .used), start .pre .0), omega (arith, start .pre .1)))
+
+same-length : tie.Need-same-length
+same-length c = search needs
+
+returns : tie.Need-returns
+returns c =
+    let start = c .before .before .before .before .before .before .before .before .before .before .before .before in
+    let first = c .before .before .before .before .before .before .before .put-fact .ensures in
+    let second = c .before .before .put-fact2 .ensures in
+    let both = puts-then first second in record {
+      stands = both .stands;
+      bytes = omega (arith, first .ends, second .ends, fact-short recordsWord (start .args .head .used), fact-short rowsWord (start .args .rows));
+    }
+
+pub facts-spec : {M : Type 1} → statement M
+facts-spec =
+    tie.close
+    (tie.spec slice-aggregate-put-fact cast-put-fact put-fact-requires slice-aggregate-put-fact-2 put-fact-requires-2 same-length returns)

@@ -1,0 +1,37 @@
+-- `text::put_entry` puts an entry, and a space before it unless it is the first.
+use native.Mathlib.Omega.{arith}
+use borrow.Author.Needs.{needs}
+use Rattle.list.proofs.Putting.{puts-first, puts-later}
+use Rattle.list.proofs.text.put_entry.Statement.{statement}
+use Rattle.list.proofs.text.put_entry.Tie as tie
+
+put-number-requires : tie.Need-put-number-requires
+put-number-requires c κs = search needs
+
+same-length : tie.Need-same-length
+same-length c = search needs
+
+returns : tie.Need-returns
+returns c =
+    let start = c .before .before .before .before .before .before in
+    puts-first (start .args .place) (start .args .n) (omega (arith, c .before .before .before .before .if1 .taken)) (c .before .before .put-number .ensures)
+
+put-byte-requires : tie.Need-put-byte-requires
+put-byte-requires c κs = search needs
+
+put-number-requires-2 : tie.Need-put-number-requires-2
+put-number-requires-2 c κs = search needs
+
+same-length-2 : tie.Need-same-length-2
+same-length-2 c = search needs
+
+returns-2 : tie.Need-returns-2
+returns-2 c =
+    let start = c .before .before .before .before .before .before .before .before .before .before in
+    puts-later (start .args .place) (start .args .n) (λ none. omega (arith, none, c .before .before .before .before .before .before .before .before .if1 .left))
+    (c .before .before .before .before .before .before .put-byte .ensures) (c .before .before .put-number2 .ensures)
+
+pub put-entry-spec : {M : Type 1} → statement M
+put-entry-spec =
+    tie.close
+    (tie.spec put-number-requires same-length returns put-byte-requires put-number-requires-2 same-length-2 returns-2)

@@ -1,0 +1,87 @@
+-- `text::put_word` copies a word, a byte a turn.
+use mathlib.Core.List.{List, _++_}
+use mathlib.Core.Path.{_∙_, _≡_, ap, refl, sym}
+use Prim.Native.Nat.{_+_, _-_, _≤_, ℕ}
+use native.Mathlib.Numerals.{add-one}
+use native.Mathlib.Omega.{arith}
+use lib.ListN.{getD, length, set, take}
+use lib.Seq.{length-paste, paste, paste-suc, paste-zero, take-length, take-paste}
+use Rattle.list.proofs.text.put_word.Statement.{statement}
+use Rattle.list.proofs.text.put_word.Tie as tie
+
+abbrev Inv-loop : tie.InvT-loop
+Inv-loop text₀ at word i₀ text i = (i ≤ length word) × (text ≡ paste text₀ at word i)
+
+abbrev μ-loop : tie.MeasureT-loop
+μ-loop text₀ at word i₀ text i = length word - i
+
+-- the text stays as long as it was
+so-far : (c : tie.At-loop Inv-loop μ-loop) → length (c .loop .text) ≡ length (c .before .args .text .now)
+so-far c =
+    let a = c .before .args in
+    let l = c .loop in
+    ap length (l .inv .1) ∙ length-paste (a .text .now) (a .at) (a .word .now) (l .i) (omega (arith, c .before .pre, l .inv .0)) (l .inv .0)
+
+loop-holds : tie.Need-loop-holds Inv-loop μ-loop
+loop-holds c = let a = c .args in (omega arith, paste-zero (a .text .now) (a .at) (a .word .now))
+
+shared-slice-read-text : tie.Need-shared-slice-read-text Inv-loop μ-loop
+shared-slice-read-text c = c .before .loop-test .taken
+
+add-text : tie.Need-add-text Inv-loop μ-loop
+add-text c = omega (arith, c .before .before .before .pre, c .before .loop-test .taken)
+
+slice-write-text : tie.Need-slice-write-text Inv-loop μ-loop
+slice-write-text c = omega (arith, so-far (c .before .before), c .before .before .before .pre, c .before .loop-test .taken)
+
+add-i : tie.Need-add-i Inv-loop μ-loop
+add-i c = omega (arith, c .before .before .before .pre, c .before .loop-test .taken)
+
+loop-less : tie.Need-loop-less Inv-loop μ-loop
+loop-less c = omega (arith, c .before .loop-test .taken)
+
+loop-again : tie.Need-loop-again Inv-loop μ-loop
+loop-again c =
+    let a = c .before .before .before .args in
+    let l = c .before .before .loop in
+    let taken = c .before .loop-test .taken in (
+      omega arith,
+      ap (λ (t : List ℕ). set t (a .at + l .i) (getD (a .word .now) (l .i) 0)) (l .inv .1)
+          ∙ paste-suc (a .text .now) (a .at) (a .word .now) (l .i) 0 (omega (arith, c .before .before .before .pre)) taken
+          ∙ ap (paste (a .text .now) (a .at) (a .word .now)) (sym (add-one (l .i))),
+    )
+
+add-result : tie.Need-add-result Inv-loop μ-loop
+add-result c = omega (arith, c .before .before .pre)
+
+same-length : tie.Need-same-length Inv-loop μ-loop
+same-length c = so-far (c .before)
+
+returns : tie.Need-returns Inv-loop μ-loop
+returns c =
+    let a = c .before .before .args in
+    let l = c .before .loop in
+    let all : l .i ≡ length (a .word .now) = omega (arith, c .loop-test .left) in record {
+      ends = refl;
+      stands =
+          ap (take (a .at + length (a .word .now))) (l .inv .1 ∙ ap (paste (a .text .now) (a .at) (a .word .now)) all)
+          ∙ take-paste (a .text .now) (a .at) (a .word .now) (length (a .word .now)) (omega (arith, c .before .before .pre)) (omega arith)
+          ∙ ap (λ (w : List ℕ). take (a .at) (a .text .now) ++ w) (take-length (a .word .now));
+    }
+
+pub put-word-spec : {M : Type 1} → statement M
+put-word-spec =
+    tie.close
+    (tie.spec
+    Inv-loop
+    μ-loop
+    loop-holds
+    shared-slice-read-text
+    add-text
+    slice-write-text
+    add-i
+    loop-less
+    loop-again
+    add-result
+    same-length
+    returns)

@@ -1,0 +1,141 @@
+// The listing as it goes: what is still to be told, and the text that waits to be written.
+ghost use mathlib.Core.Path.{_≡_};
+ghost use Prim.Native.Nat.{_+_, _≤_, _<_, _^_};
+ghost use lib.ListN.{length};
+ghost use Rattle.paper.specs.Answers.{numberOf, saysBuilt, saysCounted, saysWritten};
+ghost use Rattle.list.specs.Page.{Facts, Refuses, Opens, Linable, Lines, roomy};
+use crate::text::put_fact;
+use crate::text::put_row;
+use libc::STDOUT_FILENO;
+use paper::Built;
+use paper::Counted;
+use paper::Head;
+use paper::Refusal;
+use paper::Written;
+
+// `number` is the next row's, of so many rows with so many places. So many bytes are told, and `bytes` of the text wait.
+pub(crate) struct Page {
+    pub(crate) number: u64,
+    pub(crate) rows: u64,
+    pub(crate) told: u64,
+    pub(crate) places: usize,
+    pub(crate) bytes: usize,
+    pub(crate) going: bool,
+}
+
+// The number that says no.
+fn number(why: Refusal) -> u8
+    ensures { λ n. ⌜ n ≡ numberOf why ⌝ }
+{
+    match why {
+        Refusal::Tree => 1,
+        Refusal::ManyNodes => 2,
+        Refusal::Query => 3,
+        Refusal::Twice => 4,
+        Refusal::ShortWork => 5,
+        Refusal::ShortTable => 6,
+        Refusal::Place => 7,
+        Refusal::Node => 8,
+        Refusal::RowNumber => 9,
+        Refusal::ShortOutput => 10,
+        Refusal::NotSound => 11,
+        Refusal::UnitTwice => 12,
+        Refusal::RowLength => 13,
+        Refusal::LongInput => 14,
+    }
+}
+
+// One line with the number that says no, and no more.
+pub(crate) fn refuse(why: Refusal, text: &mut [u8]) -> Page
+    requires { ⌜ (58 ≤ length (now text)) × (length (now text) ≤ 65536) ⌝ }
+    ensures { λ r. ⌜ Refuses (numberOf why) r (now (text .exit)) ⌝ }
+{
+    let bytes = put_fact(
+        &mut *text,
+        0,
+        &[b'r', b'e', b'f', b'u', b's', b'e', b'd', b' '],
+        number(why) as u64,
+    );
+    Page {
+        number: 0,
+        rows: 0,
+        told: 0,
+        places: 0,
+        bytes: bytes,
+        going: false,
+    }
+}
+
+// The records made and the rows, before the first row.
+fn facts(head: Head, rows: u64, text: &mut [u8]) -> usize
+    requires { ⌜ (58 ≤ length (now text)) × (length (now text) ≤ 65536) ⌝ }
+    ensures { λ r. ⌜ Facts (head .used) rows r (now (text .exit)) ⌝ }
+{
+    let made = put_fact(
+        &mut *text,
+        0,
+        &[b'r', b'e', b'c', b'o', b'r', b'd', b's', b' '],
+        head.used as u64,
+    );
+    put_fact(&mut *text, made, &[b'r', b'o', b'w', b's', b' '], rows)
+}
+
+// The first lines of a listing: the records and the rows, or a refusal.
+pub(crate) fn open_page(built: Built, counted: Counted, text: &mut [u8]) -> Page
+    requires { ⌜ (58 ≤ length (now text)) × (length (now text) ≤ 65536) ⌝ }
+    ensures { λ r. ⌜ Opens (saysBuilt built) (saysCounted counted) r (now (text .exit)) ⌝ }
+{
+    match built {
+        Built::Refused(why) => refuse(why, &mut *text),
+        Built::Set(head) => match counted {
+            Counted::Refused(why) => refuse(why, &mut *text),
+            Counted::Rows(rows) => {
+                let bytes = facts(head, rows, &mut *text);
+                Page {
+                    number: 0,
+                    rows: rows,
+                    told: 0,
+                    places: head.arity as usize,
+                    bytes: bytes,
+                    going: rows > 0,
+                }
+            }
+        },
+    }
+}
+
+// What waits is written, if a line might not fit behind it.
+fn make_room(t: Page, text: &[u8]) -> Page
+    requires { ⌜ (t .bytes ≤ length (now text)) × (t .told + t .bytes < 2 ^ 64) ⌝ }
+    ensures { λ r. ⌜ r ≡ roomy (length (now (text .entry))) t ⌝ }
+{
+    let bytes = t.bytes;
+    if text.len() - bytes >= 85 {
+        return t;
+    }
+    io::write_all(STDOUT_FILENO, &text[..bytes]);
+    let mut next = t;
+    next.told = t.told + bytes as u64;
+    next.bytes = 0;
+    next
+}
+
+// The line of the next row, which stands in `row` if it was written there.
+pub(crate) fn put_line(t: Page, written: Written, row: &[u16], text: &mut [u8]) -> Page
+    requires { ⌜ Linable t (saysWritten written) (now row) (now text) ⌝ }
+    ensures { λ r. ⌜ Lines t (saysWritten written) (now (row .entry)) (now (text .entry)) r (now (text .exit)) ⌝ }
+{
+    let mut next = t;
+    match written {
+        Written::Refused(_) => {
+            next.going = false;
+        }
+        Written::Row => {
+            next = make_room(t, &*text);
+            next.bytes = put_row(&mut *text, next.bytes, row, t.places);
+            next.number = t.number + 1;
+            next.going = next.number < t.rows;
+        }
+    }
+    next
+}
