@@ -2,11 +2,11 @@
 // A sound record lists some row, so 0 rows say that a record is not sound.
 ghost use mathlib.Core.Bool.{_&&_};
 ghost use mathlib.Core.Path.{_≡_};
-ghost use Prim.Native.Nat.{_+_, _/_, _≤_, _<_};
+ghost use Prim.Native.Nat.{_+_, _*_, _/_, _≤_, _<_};
 ghost use lib.Dec.{eqb};
 ghost use lib.ListN.{length};
 ghost use Rattle.paper.specs.Sound.{apart};
-ghost use Rattle.sound.specs.Steps.{singleRows, unionRows, productRows, rowsBy, recordFits, Weighable, Steps};
+ghost use Rattle.sound.specs.Steps.{ifFew, singleRows, unionRows, productRows, rowsBy, recordFits, Weighable, Steps};
 use crate::state::State;
 use paper::Flag;
 use paper::Record;
@@ -50,6 +50,24 @@ fn union_rows(flag: u64, left: u64, right: u64) -> u64
     if rows <= MOST_ROWS { rows } else { 0 }
 }
 
+// So many rows times so many, or 0 if they are too many. Two factors of at most 2 to the power of 24 never are, and the division that
+// tells of the others is slow.
+fn few_product(rows: u64, times: u64) -> u64
+    requires { ⌜ 0 < times ⌝ }
+    ensures { λ n. ⌜ n ≡ ifFew (rows * times) ⌝ }
+{
+    if rows <= 16777216 {
+        if times <= 16777216 {
+            return rows * times;
+        }
+    }
+    if rows <= MOST_ROWS / times {
+        rows * times
+    } else {
+        0
+    }
+}
+
 // The rows of a product of records with these weights.
 fn product_rows(flag: u64, left: u64, right: u64) -> u64
     requires { ⌜ 0 < right / 16 ⌝ }
@@ -58,13 +76,7 @@ fn product_rows(flag: u64, left: u64, right: u64) -> u64
     if !together(left % 16, right % 16, flag) {
         return 0;
     }
-    let rows = left / 16;
-    let times = right / 16;
-    if rows <= MOST_ROWS / times {
-        rows * times
-    } else {
-        0
-    }
+    few_product(left / 16, right / 16)
 }
 
 // The rows of record `at`, by its kind and its operands.

@@ -21,8 +21,7 @@ make-room-requires c κs = search needs
 put-row-requires : tie.Need-put-row-requires
 put-row-requires c κs =
     let start = c .before .before .before .before .before .before .before in
-    let a = start .args in
-    (
+    let a = start .args in (
       row-there (a .t .places) (a .written) (a .row .now) (c .before .before .before .enum-told2 .given .1) (start .pre .there),
       (omega (arith, waits-room (length (a .text .now)) (a .t) (start .pre .long) (start .pre .within), ap (λ (t : Page). t .bytes) (c .before .make-room .ensures)), start .pre .short),
     )
