@@ -1,4 +1,5 @@
 pub mod HeadNumbers
-pub mod Telling
-pub mod Passing
+pub mod OneAnswer
 pub mod Outputs
+pub mod Passing
+pub mod Telling

@@ -71,13 +71,14 @@ fn facts(head: Head, rows: u64, text: &mut [u8]) -> usize
     requires { ⌜ (58 ≤ length (now text)) × (length (now text) ≤ 65536) ⌝ }
     ensures { λ r. ⌜ Facts (head .used) rows r (now (text .exit)) ⌝ }
 {
-    let made = put_fact(
+    let records = head.used as u64;
+    let end = put_fact(
         &mut *text,
         0,
         &[b'r', b'e', b'c', b'o', b'r', b'd', b's', b' '],
-        head.used as u64,
+        records,
     );
-    put_fact(&mut *text, made, &[b'r', b'o', b'w', b's', b' '], rows)
+    put_fact(&mut *text, end, &[b'r', b'o', b'w', b's', b' '], rows)
 }
 
 // The first lines of a listing: the records and the rows, or a refusal.

@@ -26,8 +26,7 @@ use Rattle.paper.specs.declared.Head.{Head}
 use Rattle.paper.proofs.Counted as C
 use Rattle.paper.proofs.Counted.Laws as C′
 use Rattle.sound.specs.Face.{Counts}
-use Rattle.table.proofs.Values.{owns-value}
-use Rattle.sound.proofs.Heads.{head as a-head}
+use Rattle.sound.proofs.Heads.{head}
 use Rattle.sound.proofs.count as count
 use Rattle.sound.proofs.count.Symbol as count-def
 use Rattle.sound.proofs.count.Symbol.{name as #count}
@@ -85,7 +84,7 @@ module _ {M : Type 1} (𝓤 : URA M) (H : Heap 𝓤) (A : Atoms 𝓤) (W : Given
         (qs .1 .0, (qs .1 .1 .0, tt)),
         tt,
         (h, (a .1 .0, (a .1 .1 .0, tt))),
-        (a-head .low h ∷ [], (slice-vals (a .1 .0), (slice-vals (a .1 .1 .0), tt))),
+        (head .low h ∷ [], (slice-vals (a .1 .0), (slice-vals (a .1 .1 .0), tt))),
       ),
       tt,
     )
@@ -107,16 +106,16 @@ module _ {M : Type 1} (𝓤 : URA M) (H : Heap 𝓤) (A : Atoms 𝓤) (W : Given
           move ! (20 ∷ 21 ∷ []) $ split3 ! $ move ! (2 ∷ []) $ split ! $ move ! (4 ∷ []) $ fsplit ! $ move ! (1 ∷ []) $ fsplit ! $ move ! (1 ∷ []) $ fsplit ! $
           -- [the work; the rows; the table; the head; the tokens of the work, the rows, the head, the table; local j at 8 + 2 * j]
           nothing ! $ move ! (7 ∷ 0 ∷ []) $ join ! $ nothing ! $ move ! (5 ∷ 0 ∷ []) $ fjoin ! $ move ! (1 ∷ 0 ∷ []) $
-          passes ! (fmOf 𝓤 H (W .laws) 𝓣) head-of.ended (head-of.clauses 𝓤 H A mem run) known-head to-head (id⊢ 𝓤 _) (id⊢ 𝓤 _) (id⊢ 𝓤 _) (a-head .low) (a-head .tells)
+          passes ! (fmOf 𝓤 H (W .laws) 𝓣) head-of.ended (head-of.clauses 𝓤 H A mem run) known-head to-head (id⊢ 𝓤 _) (id⊢ 𝓤 _) (id⊢ 𝓤 _) (head .low) (head .tells)
           (and-then ! (value ! 9 refl) (no-more !))
           (λ h us good. heard ! (h ≡ headOf (now (a .0))) (λ is.
           use1 W (‵ (flft (κs .0) (qs .0)) ⊛ ‵ ftrue) (id⊢ 𝓤 _) $ split ! $ keep ! (0 ∷ 3 ∷ 4 ∷ 5 ∷ 6 ∷ 7 ∷ 8 ∷ span 9 20) $
           -- [the head's token; the work; the rows; the table; the tokens of the work, the rows, the table; local j at 7 + 2 * j]
-          land ! (from ! (stop !)) (init ! 17 refl (a-head .typed 𝓤 H A W h good)) $
+          land ! (from ! (stop !)) (init ! 17 refl (head .typed 𝓤 H A W h good)) $
           sets ! 21 refl (elements ! 13 refl refl refl refl) (tt, tt) $
           sets ! 23 refl (agg ! (and-then ! (value ! 21 refl) (and-then ! (part ! 13 refl refl refl) (no-more !)))) (slice-typed (work-room .0)) $
           nothing ! $ move ! (5 ∷ 0 ∷ []) $ join ! $ move ! (6 ∷ 0 ∷ []) $ join ! $
-          nothing ! $ move ! (3 ∷ 0 ∷ []) $ fjoin ! $ move ! (4 ∷ 0 ∷ []) $ fjoin ! $ owns-value a-head ! h good $ fjoin ! $ move ! (1 ∷ 0 ∷ []) $
+          nothing ! $ move ! (3 ∷ 0 ∷ []) $ fjoin ! $ move ! (4 ∷ 0 ∷ []) $ fjoin ! $ owns-value head ! h good $ fjoin ! $ move ! (1 ∷ 0 ∷ []) $
           passes ! (fmOf 𝓤 H (W .laws) 𝓣) count.ended (count.clauses 𝓤 H A mem run) known-ask (to-ask h) (id⊢ 𝓤 _) (id⊢ 𝓤 _) (id⊢ 𝓤 _) (answer .low) (answer .tells)
           (and-then ! (value ! 14 refl) (and-then ! (value ! 8 refl) (and-then ! (value ! 20 refl) (no-more !))))
           (λ r ws good-answer. heard ! (Counts h (now (a .1 .0)) (now (a .1 .1 .0)) r (ws .1 .1 .0)) (λ asked.

@@ -27,8 +27,7 @@ use Rattle.paper.specs.declared.Head.{Head}
 use Rattle.paper.proofs.Fixed as C
 use Rattle.paper.proofs.Fixed.Laws as C′
 use Rattle.fix.specs.Face.{Fixes}
-use Rattle.table.proofs.Values.{owns-value}
-use Rattle.sound.proofs.Heads.{head as a-head}
+use Rattle.sound.proofs.Heads.{head}
 use Rattle.fix.proofs.fix as fix
 use Rattle.fix.proofs.fix.Symbol as fix-def
 use Rattle.fix.proofs.fix.Symbol.{name as #fix}
@@ -90,7 +89,7 @@ module _ {M : Type 1} (𝓤 : URA M) (H : Heap 𝓤) (A : Atoms 𝓤) (W : Given
         tt,
         (h, (a .1 .0, (a .1 .1 .0, (a .1 .1 .1 .0, (a .1 .1 .1 .1 .0, (a .1 .1 .1 .1 .1 .0, tt)))))),
         (
-          a-head .low h ∷ [],
+          head .low h ∷ [],
           (
             slice-vals (a .1 .0),
             (
@@ -170,19 +169,19 @@ module _ {M : Type 1} (𝓤 : URA M) (H : Heap 𝓤) (A : Atoms 𝓤) (W : Given
           move ! (1 ∷ []) $ fsplit ! $ drop ! $ fsplit ! $ drop ! $ fsplit ! $
           -- [the target; the fixed; the work; the source; the head; the tokens of the work, the target, the fixed, the head, the source; local j at 10 + 2 * j]
           nothing ! $ move ! (9 ∷ 0 ∷ []) $ join ! $ nothing ! $ move ! (6 ∷ 0 ∷ []) $ fjoin ! $ move ! (1 ∷ 0 ∷ []) $
-          passes ! (fmOf 𝓤 H (W .laws) 𝓣) head-of.ended (head-of.clauses 𝓤 H A mem run) known-head to-head (id⊢ 𝓤 _) (id⊢ 𝓤 _) (id⊢ 𝓤 _) (a-head .low) (a-head .tells)
+          passes ! (fmOf 𝓤 H (W .laws) 𝓣) head-of.ended (head-of.clauses 𝓤 H A mem run) known-head to-head (id⊢ 𝓤 _) (id⊢ 𝓤 _) (id⊢ 𝓤 _) (head .low) (head .tells)
           (and-then ! (value ! 11 refl) (no-more !))
           (λ h us good. heard ! (h ≡ headOf (now (a .0))) (λ is.
           use1 W (‵ (flft (κs .0) (qs .0)) ⊛ ‵ ftrue) (id⊢ 𝓤 _) $ split ! $ keep ! (0 ∷ span 3 38) $
           -- [the head's token; the target; the fixed; the work; the source; the tokens of the work, the target, the fixed, the source; local j at 9 + 2 * j]
-          land ! (from ! (stop !)) (init ! 25 refl (a-head .typed 𝓤 H A W h good)) $
+          land ! (from ! (stop !)) (init ! 25 refl (head .typed 𝓤 H A W h good)) $
           sets ! 29 refl (elements ! 15 refl refl refl refl) (tt, tt) $
           sets ! 31 refl (agg ! (and-then ! (value ! 29 refl) (and-then ! (part ! 15 refl refl refl) (no-more !)))) (slice-typed (work-room .0)) $
           sets ! 33 refl (elements ! 21 refl refl refl refl) (tt, tt) $
           sets ! 35 refl (agg ! (and-then ! (value ! 33 refl) (and-then ! (part ! 21 refl refl refl) (no-more !)))) (slice-typed (target-room .0)) $
           nothing ! $ move ! (7 ∷ 0 ∷ []) $ join ! $ move ! (6 ∷ 0 ∷ []) $ join ! $ move ! (7 ∷ 0 ∷ []) $ join ! $
           nothing ! $ move ! (3 ∷ 0 ∷ []) $ fjoin ! $ owns-value short ! (a .1 .1 .1 .1 .0) node-good $ fjoin ! $ owns-value short ! (a .1 .1 .1 .0) place-good $ fjoin ! $
-          move ! (4 ∷ 0 ∷ []) $ fjoin ! $ move ! (4 ∷ 0 ∷ []) $ fjoin ! $ owns-value a-head ! h good $ fjoin ! $ move ! (1 ∷ 0 ∷ []) $
+          move ! (4 ∷ 0 ∷ []) $ fjoin ! $ move ! (4 ∷ 0 ∷ []) $ fjoin ! $ owns-value head ! h good $ fjoin ! $ move ! (1 ∷ 0 ∷ []) $
           passes ! (fmOf 𝓤 H (W .laws) 𝓣) fix.ended (fix.clauses 𝓤 H A mem run) known-ask (to-ask h) (id⊢ 𝓤 _) (id⊢ 𝓤 _) (id⊢ 𝓤 _) (answer .low) (answer .tells)
           (and-then ! (value ! 20 refl) (and-then ! (value ! 8 refl) (and-then ! (value ! 26 refl) (and-then ! (value ! 12 refl) (and-then ! (value ! 14 refl)
           (and-then ! (value ! 30 refl) (no-more !)))))))

@@ -27,8 +27,7 @@ use Rattle.paper.specs.declared.Head.{Head}
 use Rattle.paper.proofs.Member as C
 use Rattle.paper.proofs.Member.Laws as C′
 use Rattle.member.specs.Face.{Members}
-use Rattle.table.proofs.Values.{owns-value}
-use Rattle.sound.proofs.Heads.{head as a-head}
+use Rattle.sound.proofs.Heads.{head}
 use Rattle.member.proofs.member as member
 use Rattle.member.proofs.member.Symbol as member-def
 use Rattle.member.proofs.member.Symbol.{name as #member}
@@ -86,7 +85,7 @@ module _ {M : Type 1} (𝓤 : URA M) (H : Heap 𝓤) (A : Atoms 𝓤) (W : Given
         (qs .1 .0, (qs .1 .1 .0, (qs .1 .1 .1 .0, tt))),
         tt,
         (h, (a .1 .0, (a .1 .1 .0, (a .1 .1 .1 .0, tt)))),
-        (a-head .low h ∷ [], (slice-vals (a .1 .0), (slice-vals (a .1 .1 .0), (slice-vals (a .1 .1 .1 .0), tt)))),
+        (head .low h ∷ [], (slice-vals (a .1 .0), (slice-vals (a .1 .1 .0), (slice-vals (a .1 .1 .1 .0), tt)))),
       ),
       tt,
     )
@@ -143,16 +142,16 @@ module _ {M : Type 1} (𝓤 : URA M) (H : Heap 𝓤) (A : Atoms 𝓤) (W : Given
           move ! (1 ∷ []) $ fsplit ! $
           -- [the row; the listed; the work; the table; the head; the tokens of the work, the row, the listed, the head, the table; local j at 10 + 2 * j]
           nothing ! $ move ! (9 ∷ 0 ∷ []) $ join ! $ nothing ! $ move ! (6 ∷ 0 ∷ []) $ fjoin ! $ move ! (1 ∷ 0 ∷ []) $
-          passes ! (fmOf 𝓤 H (W .laws) 𝓣) head-of.ended (head-of.clauses 𝓤 H A mem run) known-head to-head (id⊢ 𝓤 _) (id⊢ 𝓤 _) (id⊢ 𝓤 _) (a-head .low) (a-head .tells)
+          passes ! (fmOf 𝓤 H (W .laws) 𝓣) head-of.ended (head-of.clauses 𝓤 H A mem run) known-head to-head (id⊢ 𝓤 _) (id⊢ 𝓤 _) (id⊢ 𝓤 _) (head .low) (head .tells)
           (and-then ! (value ! 11 refl) (no-more !))
           (λ h us good. heard ! (h ≡ headOf (now (a .0))) (λ is.
           use1 W (‵ (flft (κs .0) (qs .0)) ⊛ ‵ ftrue) (id⊢ 𝓤 _) $ split ! $ keep ! (0 ∷ span 3 30) $
           -- [the head's token; the row; the listed; the work; the table; the tokens of the work, the row, the listed, the table; local j at 9 + 2 * j]
-          land ! (from ! (stop !)) (init ! 21 refl (a-head .typed 𝓤 H A W h good)) $
+          land ! (from ! (stop !)) (init ! 21 refl (head .typed 𝓤 H A W h good)) $
           sets ! 25 refl (elements ! 15 refl refl refl refl) (tt, tt) $
           sets ! 27 refl (agg ! (and-then ! (value ! 25 refl) (and-then ! (part ! 15 refl refl refl) (no-more !)))) (slice-typed (work-room .0)) $
           nothing ! $ move ! (7 ∷ 0 ∷ []) $ join ! $ move ! (6 ∷ 0 ∷ []) $ join ! $ move ! (7 ∷ 0 ∷ []) $ join ! $
-          nothing ! $ move ! (3 ∷ 0 ∷ []) $ fjoin ! $ move ! (4 ∷ 0 ∷ []) $ fjoin ! $ move ! (4 ∷ 0 ∷ []) $ fjoin ! $ owns-value a-head ! h good $ fjoin ! $ move ! (1 ∷ 0 ∷ []) $
+          nothing ! $ move ! (3 ∷ 0 ∷ []) $ fjoin ! $ move ! (4 ∷ 0 ∷ []) $ fjoin ! $ move ! (4 ∷ 0 ∷ []) $ fjoin ! $ owns-value head ! h good $ fjoin ! $ move ! (1 ∷ 0 ∷ []) $
           passes ! (fmOf 𝓤 H (W .laws) 𝓣) member.ended (member.clauses 𝓤 H A mem run) known-ask (to-ask h) (id⊢ 𝓤 _) (id⊢ 𝓤 _) (id⊢ 𝓤 _) (answer .low) (answer .tells)
           (and-then ! (value ! 16 refl) (and-then ! (value ! 8 refl) (and-then ! (value ! 22 refl) (and-then ! (value ! 12 refl) (no-more !)))))
           (λ r ws good-answer. heard ! (Members h (now (a .1 .0)) (now (a .1 .1 .0)) (now (a .1 .1 .1 .0)) r (ws .1 .1 .0)) (λ asked.

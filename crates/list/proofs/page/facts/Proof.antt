@@ -6,11 +6,11 @@ use Rattle.list.proofs.Putting.{fact-short, puts-then}
 use Rattle.list.proofs.page.facts.Statement.{statement}
 use Rattle.list.proofs.page.facts.Tie as tie
 
+cast-records : tie.Need-cast-records
+cast-records c = search needs
+
 slice-aggregate-put-fact : tie.Need-slice-aggregate-put-fact
 slice-aggregate-put-fact c = search needs
-
-cast-put-fact : tie.Need-cast-put-fact
-cast-put-fact c = search needs
 
 put-fact-requires : tie.Need-put-fact-requires
 put-fact-requires c κs = search needs
@@ -40,4 +40,4 @@ returns c =
 pub facts-spec : {M : Type 1} → statement M
 facts-spec =
     tie.close
-    (tie.spec slice-aggregate-put-fact cast-put-fact put-fact-requires slice-aggregate-put-fact-2 put-fact-requires-2 same-length returns)
+    (tie.spec cast-records slice-aggregate-put-fact put-fact-requires slice-aggregate-put-fact-2 put-fact-requires-2 same-length returns)
