@@ -1,7 +1,7 @@
 -- The rules at the present node, where they stand in the input. First what tells a rule for the node from other records; then rules
 -- skipped, and one done; then the rule at hand, its numbers, and the search for the next one.
 use mathlib.Core.Bool.{_&&_, false, true, true≢false}
-use mathlib.Core.List.{List, _++_, _∷_, List·Memᴰ·tail, Memᴰ·append-left, Memᴰ·append-right, append-assoc}
+use mathlib.Core.List.{List, _++_, _∷_, Memᴰ·append-right, append-assoc}
 use mathlib.Core.Logic.{inl, inr, ⊎-elim}
 use mathlib.Core.Path.{_∙_, _≡_, ap, refl, subst, sym}
 use Prim.Native.Nat.{_+_, _<_, _^_, _≤_, ℕ}
@@ -13,8 +13,8 @@ use Rattle.paper.specs.Building.{Slots, branchStep, leafStep, recordSets, split
 use Rattle.paper.specs.Lists.{_∈_, through}
 use Rattle.paper.specs.Query.{Query, Rule, branchRule, isRuleKind, leafRule, rulesOf}
 use Rattle.paper.specs.Refusals.{queryIn, queryPart}
-use Rattle.paper.specs.Stream.{StreamRecord, bodyLength, number, recordsOf, whole}
-use Rattle.laws.proofs.Lists.{both-true}
+use Rattle.paper.specs.Stream.{StreamRecord, bodyLength, number, recordsOf}
+use Rattle.laws.proofs.Lists.{both-true, here as first-of}
 use Rattle.laws.proofs.Replies.{Passes}
 use Rattle.laws.specs.StreamRows.{TreeKind}
 use Rattle.stream.specs.Positions.{NextRule, after, isRuleFor, recordAt}
@@ -27,19 +27,15 @@ use Rattle.build.proofs.RuleNumbers.{branch-numbers, leaf-numbers}
 use Rattle.build.proofs.RuleOrder.{branch-here, branch-skips, leaf-here, leaf-skips}
 
 -- ---- a rule for the node
-rule-is : (kind label : ℕ) (r : StreamRecord) → isRuleFor kind label r ≡ true → (r .kind ≡ kind) × (number r 0 ≡ label) × (whole r ≡ true)
+rule-is : (kind label : ℕ) (r : StreamRecord) → isRuleFor kind label r ≡ true → (r .kind ≡ kind) × (number r 0 ≡ label)
 rule-is kind label r e =
-    let (k, others) = both-true (eqb (r .kind) kind) (isRuleKind kind && (eqb (number r 0) label && whole r)) e in
-    let (l, w) = both-true (eqb (number r 0) label) (whole r) (both-true (isRuleKind kind) (eqb (number r 0) label && whole r) others .1) in
-    (eqb-true (r .kind) kind k, eqb-true (number r 0) label l, w)
+    let (k, others) = both-true (eqb (r .kind) kind) (isRuleKind kind && eqb (number r 0) label) e in
+    (eqb-true (r .kind) kind k, eqb-true (number r 0) label (both-true (isRuleKind kind) (eqb (number r 0) label) others .1))
 
-is-rule : (kind label : ℕ) (r : StreamRecord) → isRuleKind kind ≡ true → r .kind ≡ kind → number r 0 ≡ label → whole r ≡ true
-    → isRuleFor kind label r ≡ true
-is-rule kind label r k e l w = rw (k, eq-eqb (r .kind) kind e, eq-eqb (number r 0) label l, w) refl
-
-no-rule : (kind label : ℕ) (r : StreamRecord) → isRuleKind kind ≡ true → whole r ≡ true → isRuleFor kind label r ≡ false
+no-rule : (kind label : ℕ) (r : StreamRecord) → isRuleKind kind ≡ true → isRuleFor kind label r ≡ false
     → (r .kind ≡ kind) × (number r 0 ≡ label) → ⊥
-no-rule kind label r k w no-one h = true≢false (sym (is-rule kind label r k (h .0) (h .1) w) ∙ no-one)
+no-rule kind label r k no-one (e, l) =
+    true≢false (sym (rw (k, eq-eqb (r .kind) kind e, eq-eqb (number r 0) label l) refl) ∙ no-one)
 
 -- a leaf's rule that stands at the position of the next rule: its bytes, and that its numbers are in range
 pub record LeafRuleAt (input : List ℕ) (t : State) (label : ℕ) : Type 0 where
@@ -80,21 +76,20 @@ module _ (Q : Query) (r : StreamRecord) (n : ℕ) (stack : List (Slots Set)) whe
 
   -- records that are no rules for the node change nothing
   rules-skipped : TreeKind (r .kind) → (z : List Record × Slots Set) (skipped rs : List StreamRecord)
-      → ((x : StreamRecord) → x ∈ skipped → whole x ≡ true)
       → ((x : StreamRecord) → x ∈ skipped → isRuleFor (r .kind + 16) (number r 0) x ≡ false)
       → atNode Q r n stack (rulesOf (skipped ++ rs)) z ≡ atNode Q r n stack (rulesOf rs) z
-  rules-skipped (inl e) z skipped rs w others =
+  rules-skipped (inl e) z skipped rs others =
       let kind : r .kind + 16 ≡ 17 = omega arith in
       leaf-rules e (rulesOf (skipped ++ rs)) z
       ∙ leaf-skips recordSets (number r 0) n z skipped rs
-      (λ x m h. no-rule 17 (number r 0) x refl (w x m) (ap (λ k. isRuleFor k (number r 0) x) (sym kind) ∙ others x m) h)
+      (λ x m h. no-rule 17 (number r 0) x refl (ap (λ k. isRuleFor k (number r 0) x) (sym kind) ∙ others x m) h)
       ∙ sym (leaf-rules e (rulesOf rs) z)
-  rules-skipped (inr e) z skipped rs w others =
+  rules-skipped (inr e) z skipped rs others =
       let kind : r .kind + 16 ≡ 18 = omega arith in
       let branch : r .kind ≡ 1 → ⊥ = λ one. omega arith in
       branch-rules branch (rulesOf (skipped ++ rs)) z
       ∙ branch-skips recordSets (Q .arity) (number r 0) n (getD stack 1 noSlots) (getD stack 0 noSlots) z skipped rs
-      (λ x m h. no-rule 18 (number r 0) x refl (w x m) (ap (λ k. isRuleFor k (number r 0) x) (sym kind) ∙ others x m) h)
+      (λ x m h. no-rule 18 (number r 0) x refl (ap (λ k. isRuleFor k (number r 0) x) (sym kind) ∙ others x m) h)
       ∙ sym (branch-rules branch (rulesOf rs) z)
 
   -- a leaf rule goes first
@@ -127,14 +122,10 @@ module _ (Q : Query) (r : StreamRecord) (n : ℕ) (stack : List (Slots Set)) whe
 module _ (input : List ℕ) (t : State) (k : Constants input t) (here : StreamRecord) (earlier : List Record) (stack : List (Slots Set))
     (z : List Record × Slots Set) (a : AtRule input (t .node) (t .rule) here earlier stack z) (h : t .rule < length input) where
   rule-here : (recordAt input (t .rule) .kind ≡ here .kind + 16) × (number (recordAt input (t .rule)) 0 ≡ number here 0)
-      × (whole (recordAt input (t .rule)) ≡ true)
   rule-here = rule-is (here .kind + 16) (number here 0) (recordAt input (t .rule)) (⊎-elim (λ e. absurd (omega arith)) (λ w. w .1) (a .found))
 
   rule-kind : getD input (t .rule) 0 ≡ here .kind + 16
   rule-kind = rule-here .0
-
-  rule-inside : after input (t .rule) ≤ length input
-  rule-inside = whole-inside input (t .rule) h (rule-here .2)
 
   -- it comes first of the records from it on
   rule-first : recordsOf (drop (t .rule) input) ≡ recordAt input (t .rule) ∷ recordsOf (drop (after input (t .rule)) input)
@@ -142,6 +133,12 @@ module _ (input : List ℕ) (t : State) (k : Constants input t) (here : StreamRe
 
   later-here : laterRecords input ≡ a .passed ++ (recordAt input (t .rule) ∷ recordsOf (drop (after input (t .rule)) input))
   later-here = a .records ∙ ap (λ rs. a .passed ++ rs) rule-first
+
+  rule-inside : after input (t .rule) ≤ length input
+  rule-inside =
+      whole-inside input (t .rule) h
+      (whole-later input (k .query) (recordAt input (t .rule))
+      (subst (λ rs. recordAt input (t .rule) ∈ rs) (sym later-here) (Memᴰ·append-right (a .passed) first-of)))
 
   passes-here : Passes (queryPart (headRecord input ∷ (a .passed ++ (recordAt input (t .rule) ∷ recordsOf (drop (after input (t .rule)) input)))))
   passes-here = subst (λ rs. Passes (queryPart (headRecord input ∷ rs))) later-here (query-passes input (k .query))
@@ -253,18 +250,12 @@ module _ (input : List ℕ) (t : State) (k : Constants input t) (here : StreamRe
       records = all-later;
       found = s .found;
       left =
-          sym (rules-skipped (queryIn input) here (t .node) stack kind z′ (s .skipped) (recordsOf (drop next input)) whole-skipped (s .no-rule))
+          sym (rules-skipped (queryIn input) here (t .node) stack kind z′ (s .skipped) (recordsOf (drop next input)) (s .no-rule))
           ∙ ap (λ rs. atNode (queryIn input) here (t .node) stack (rulesOf rs) z′) (sym (s .records))
           ∙ done
           ∙ ap (λ rs. atNode (queryIn input) here (t .node) stack (rulesOf rs) z) (sym rule-first)
           ∙ a .left;
     }
-      where
-        whole-skipped : (x : StreamRecord) → x ∈ s .skipped → whole x ≡ true
-        whole-skipped x m =
-            whole-later input (k .query) x
-            (subst (λ rs. x ∈ rs) (sym all-later)
-            (Memᴰ·append-left (recordsOf (drop next input)) (Memᴰ·append-right (a .passed) (List·Memᴰ·tail m))))
 
 -- ---- the first rule of a node, of all records behind the head
 pub first-rule : (input : List ℕ) (t : State) → Constants input t
@@ -276,15 +267,10 @@ first-rule input t k node here earlier stack kind next s = record {
   records = all;
   found = s .found;
   left =
-      sym (rules-skipped (queryIn input) here node stack kind (earlier, noSlots) (s .skipped) (recordsOf (drop next input))
-      whole-skipped (s .no-rule))
+      sym (rules-skipped (queryIn input) here node stack kind (earlier, noSlots) (s .skipped) (recordsOf (drop next input)) (s .no-rule))
       ∙ ap (λ rs. atNode (queryIn input) here node stack (rulesOf rs) (earlier, noSlots)) (sym all)
       ∙ ap (λ rules. atNode (queryIn input) here node stack rules (earlier, noSlots)) (sym (rules-are input (k .query)));
 }
   where
     all : laterRecords input ≡ s .skipped ++ recordsOf (drop next input)
     all = ap (λ n. recordsOf (drop n input)) (sym (k .rules)) ∙ s .records
-
-    whole-skipped : (x : StreamRecord) → x ∈ s .skipped → whole x ≡ true
-    whole-skipped x m =
-        whole-later input (k .query) x (subst (λ rs. x ∈ rs) (sym all) (Memᴰ·append-left (recordsOf (drop next input)) m))

@@ -11,5 +11,4 @@ pub mod QuerySteps
 pub mod QueryHead
 pub mod QueryReading
 pub mod AfterTree
-pub mod RulesFound
 pub mod OneAnswer

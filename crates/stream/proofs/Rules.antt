@@ -5,16 +5,16 @@ use mathlib.Core.Logic.{inl, inr, ⊎-elim}
 use mathlib.Core.Path.{_∙_, _≡_, ap, refl, subst, sym}
 use Prim.Native.Nat.{_+_, _<_, _≤_, ℕ}
 use native.Mathlib.Omega.{arith}
-use borrow.Author.Tests.{eq-eqb, eqb-false, eqb-true, leb-false, leb-true, ne-eqb}
-use lib.Dec.{eqb, leb}
+use borrow.Author.Tests.{eq-eqb, eqb-false, eqb-true, ne-eqb}
+use lib.Dec.{eqb}
 use lib.ListN.{drop, getD, length}
 use Rattle.paper.specs.Lists.{_∈_}
 use Rattle.paper.specs.Query.{isRuleKind}
-use Rattle.paper.specs.Stream.{StreamRecord, bodyLength, number, recordsOf, whole}
+use Rattle.paper.specs.Stream.{StreamRecord, bodyLength, number, recordsOf}
 use Rattle.laws.specs.StreamRows.{RuleKind}
 use Rattle.laws.proofs.Lists.{only, which}
 use Rattle.stream.specs.Positions.{NextRule, after, isRuleFor, recordAt}
-use Rattle.stream.proofs.Positions.{cut-here, number-byte, records-here, records-none, whole-here}
+use Rattle.stream.proofs.Positions.{number-byte, records-here, records-none}
 
 -- ---- one record
 pub rule-between : (k : ℕ) → 17 ≤ k → k ≤ 18 → RuleKind k
@@ -43,22 +43,9 @@ module _ (input : List ℕ) (at kind label : ℕ) (inside : at < length input) w
       its-label : number (recordAt input at) 0 ≡ getD input (at + 1) 0
       its-label = number-byte input at kind 0 (at + 1) same some-numbers (omega arith)
 
-      -- nor if its label is another
-      pub other-label : (getD input (at + 1) 0 ≡ label → ⊥) → false ≡ isRuleFor kind label (recordAt input at)
-      other-label h = rw (this-kind, rule-kind, its-label, ne-eqb (getD input (at + 1) 0) label h) refl
-
-      -- else if it is whole
-      pub this-label : getD input (at + 1) 0 ≡ label → (next : ℕ) → next ≡ after input at
-          → leb next (length input) ≡ isRuleFor kind label (recordAt input at)
-      this-label h next e =
-          ap (λ n. leb n (length input)) e
-          ∙ sym (rw (this-kind, rule-kind, its-label, eq-eqb (getD input (at + 1) 0) label h) is-whole)
-        where
-          is-whole : whole (recordAt input at) ≡ leb (after input at) (length input)
-          is-whole =
-              ⊎-elim (λ c. whole-here input at (leb-true (after input at) (length input) c) ∙ sym c)
-              (λ c. cut-here input at inside (leb-false (after input at) (length input) c) ∙ sym c)
-              (which (leb (after input at) (length input)))
+      -- else by its label
+      pub by-label : eqb (getD input (at + 1) 0) label ≡ isRuleFor kind label (recordAt input at)
+      by-label = rw (this-kind, rule-kind, its-label) refl
 
 -- ---- the records skipped: none of them is a rule that is sought
 pub record Skipped (input : List ℕ) (at kind label next : ℕ) : Type 0 where

@@ -8,7 +8,7 @@ use Prim.Native.Nat.{ℕ, _+_, _≤_, _<_}
 use lib.Dec.{eqb}
 use lib.ListN.{length, getD, take, drop}
 use Rattle.paper.specs.Lists.{_∈_}
-use Rattle.paper.specs.Stream.{bodyLength, StreamRecord, number, whole, recordsOf}
+use Rattle.paper.specs.Stream.{bodyLength, StreamRecord, number, recordsOf}
 use Rattle.paper.specs.Query.{isRuleKind}
 use Rattle.laws.specs.StreamRows.{Begins}
 
@@ -30,9 +30,9 @@ pub record WholeBetween (input : List ℕ) (from to : ℕ) : Type 0 where
   pub inside : to ≤ length input
   pub begins : Begins (drop from input) (recordsBetween input from to) (drop to input)
 
--- a whole rule of this kind and label
+-- a rule of this kind and label
 abbrev pub isRuleFor : ℕ → ℕ → StreamRecord → Bool
-isRuleFor kind label r = eqb (r .kind) kind && (isRuleKind kind && (eqb (number r 0) label && whole r))
+isRuleFor kind label r = eqb (r .kind) kind && (isRuleKind kind && eqb (number r 0) label)
 
 -- from `at` on there are records that are no such rule, and then those from `next` on; the first of these is one, if there is any
 pub record NextRule (input : List ℕ) (at kind label next : ℕ) : Type 0 where

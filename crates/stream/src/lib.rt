@@ -21,15 +21,15 @@ ghost use Rattle.stream.specs.Steps.{headReply, AtKind, wholeInRange, fi
 const LENGTHS: [u8; 20] = [0, 1, 1, 0, 0, 0, 0, 0, 0, 0, 0, 0, 0, 0, 0, 0, 2, 3, 5, 1];
 
 // The one place where the length of a body is looked up; an unknown kind has none. At a number that stands here the compiler looks
-// it up, at any other the table is laid out anew at each call: so the kinds that come often have a line of their own.
+// it up, at any other the table is laid out anew at each call: so the kinds that come often have a line of their own, the rules first.
 pub fn body_length(kind: u8) -> usize
     ensures { λ r. ⌜ r ≡ bodyLength kind ⌝ }
 {
     match kind {
+        18 => LENGTHS[18] as usize,
+        17 => LENGTHS[17] as usize,
         1 => LENGTHS[1] as usize,
         2 => LENGTHS[2] as usize,
-        17 => LENGTHS[17] as usize,
-        18 => LENGTHS[18] as usize,
         _ => {
             if kind < 20 {
                 LENGTHS[kind as usize] as usize
@@ -198,7 +198,7 @@ pub fn is_accepting(input: &[u8], at: usize, state: u8) -> bool
     is_said(input, at, &words)
 }
 
-// Whether a whole rule of this kind and label stands at a position.
+// Whether a rule of this kind and label stands at a position.
 fn is_rule_for(input: &[u8], at: usize, kind: u8, label: u8) -> bool
     requires { ⌜ at < length (now input) ⌝ }
     ensures { λ r. ⌜ r ≡ isRuleFor kind label (recordAt (now (input .entry)) at) ⌝ }
@@ -207,7 +207,7 @@ fn is_rule_for(input: &[u8], at: usize, kind: u8, label: u8) -> bool
         return false;
     }
     match kind {
-        17 | 18 => byte_at(input, at + 1) == label && at + 1 + body_length(kind) <= input.len(),
+        17 | 18 => byte_at(input, at + 1) == label,
         _ => false,
     }
 }

@@ -38,16 +38,16 @@ cast-result-5 : tie.Need-cast-result-5
 cast-result-5 c = omega (arith, length-at (c .before .before .args .kind) (c .if1 .taken), short (c .before .before .args .kind))
 
 returns : tie.Need-returns
-returns c = length-at 1 (omega arith) ∙ ap bodyLength (sym (c .match .keys1))
+returns c = length-at 18 (omega arith) ∙ ap bodyLength (sym (c .match .keys1))
 
 returns-2 : tie.Need-returns-2
-returns-2 c = length-at 2 (omega arith) ∙ ap bodyLength (sym (c .match .keys2))
+returns-2 c = length-at 17 (omega arith) ∙ ap bodyLength (sym (c .match .keys2))
 
 returns-3 : tie.Need-returns-3
-returns-3 c = length-at 17 (omega arith) ∙ ap bodyLength (sym (c .match .keys3))
+returns-3 c = length-at 1 (omega arith) ∙ ap bodyLength (sym (c .match .keys3))
 
 returns-4 : tie.Need-returns-4
-returns-4 c = length-at 18 (omega arith) ∙ ap bodyLength (sym (c .match .keys4))
+returns-4 c = length-at 2 (omega arith) ∙ ap bodyLength (sym (c .match .keys4))
 
 returns-5 : tie.Need-returns-5
 returns-5 c = length-at (c .before .before .args .kind) (c .if1 .taken)

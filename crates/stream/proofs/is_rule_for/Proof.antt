@@ -1,15 +1,13 @@
 -- `stream::is_rule_for` meets its contract.
 use mathlib.Core.List.{List}
-use mathlib.Core.Path.{_∙_, _≡_, ap, sym}
-use Prim.Native.Nat.{_+_, ℕ}
+use mathlib.Core.Path.{_∙_, _≡_, ap}
+use Prim.Native.Nat.{ℕ}
 use native.Mathlib.Omega.{arith}
 use borrow.Author.Needs.{needs}
-use borrow.Author.Tests.{ne-eqb}
+use lib.Dec.{eqb}
 use lib.ListN.{getD}
-use Rattle.paper.specs.Stream.{bodyLength}
 use Rattle.laws.specs.StreamRows.{RuleKind}
-use Rattle.stream.proofs.Lengths.{short}
-use Rattle.stream.proofs.Rules.{no-rule-kind, other-kind, other-label, rule-between, this-label}
+use Rattle.stream.proofs.Rules.{by-label, no-rule-kind, other-kind, rule-between}
 use Rattle.stream.proofs.is_rule_for.Statement.{statement}
 use Rattle.stream.proofs.is_rule_for.Tie as tie
 
@@ -50,39 +48,19 @@ add-byte-at c = search needs
 byte-at-requires : tie.Need-byte-at-requires
 byte-at-requires c κs = search needs
 
-add-result : tie.Need-add-result
-add-result c = search needs
-
-body-length-requires : tie.Need-body-length-requires
-body-length-requires c κs = search needs
-
-add-result-2 : tie.Need-add-result-2
-add-result-2 c =
-    let a = c .before .before .before .before .before .before .before .before in
-    omega (arith, a .pre, c .body-length .ensures, short (kind a))
-
 returns-2 : tie.Need-returns-2
 returns-2 c =
-    let k = c .before .before in
-    let a = start k in
-    this-label (input a) (at a) (kind a) (label a) (a .pre) (same k) (rule k) (sym (k .byte-at .ensures) ∙ c .before .if4 .taken) _
-    (ap (λ n. at a + 1 + n) (c .body-length .ensures ∙ ap bodyLength (sym (same k))))
+    let a = start c in
+    ap (λ n. eqb n (label a)) (c .byte-at .ensures) ∙ by-label (input a) (at a) (kind a) (label a) (a .pre) (same c) (rule c)
 
 returns-3 : tie.Need-returns-3
 returns-3 c =
-    let k = c .before in
-    let a = start k in
-    ne-eqb (k .byte-at .result) (label a) (c .if4 .left)
-    ∙ other-label (input a) (at a) (kind a) (label a) (a .pre) (same k) (rule k) (λ e. c .if4 .left (k .byte-at .ensures ∙ e))
-
-returns-4 : tie.Need-returns-4
-returns-4 c =
     let a = c .before .before .before .before in
     no-rule-kind (input a) (at a) (kind a) (label a) (a .pre) (c .before .if1 .left)
     (λ e. omega (arith, c .if2 .taken)) (λ e. omega (arith, c .if2 .taken))
 
-returns-5 : tie.Need-returns-5
-returns-5 c =
+returns-4 : tie.Need-returns-4
+returns-4 c =
     let a = c .before .before .before .before .before in
     no-rule-kind (input a) (at a) (kind a) (label a) (a .pre) (c .before .before .if1 .left)
     (λ e. omega (arith, c .if3 .left)) (λ e. omega (arith, c .if3 .left))
@@ -95,10 +73,6 @@ is-rule-for-spec =
     returns
     add-byte-at
     byte-at-requires
-    add-result
-    body-length-requires
-    add-result-2
     returns-2
     returns-3
-    returns-4
-    returns-5)
+    returns-4)
