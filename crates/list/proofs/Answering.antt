@@ -5,8 +5,7 @@ use mathlib.Core.List.{List, [], _++_, _∷_, append-nil}
 use mathlib.Core.Path.{_∙_, _≡_, ap, ap₂, refl, subst, subst₂, sym}
 use Prim.Native.Nat.{_+_, _<_, _≤_, ℕ}
 use native.Mathlib.Omega.{arith}
-use borrow.Author.Tests.{le-leb, leb-false, lt-leb, ltb-false}
-use lib.Dec.{leb, ltb}
+use borrow.Author.Tests.{le-leb, lt-leb, ltb-false}
 use lib.ListN.{length, take}
 use lib.Seq.{length-take-le, take-length}
 use Rattle.paper.specs.declared.Built.{Built}
@@ -14,10 +13,10 @@ use Rattle.paper.specs.declared.Built.the-variants as BuiltIs
 use Rattle.paper.specs.declared.Counted.{Counted}
 use Rattle.paper.specs.declared.Head.{Head}
 use Rattle.paper.specs.declared.Record.{Record}
-use Rattle.paper.specs.Answers.{numberOf, saysBuilt, saysCounted, told}
+use Rattle.paper.specs.Answers.{saysBuilt, saysCounted, told}
 use Rattle.paper.specs.Questions.{countOf}
 use Rattle.paper.specs.Records.{listing, listings, setRows, usedOf}
-use Rattle.paper.specs.Refusals.{Reply, Test, answer, build, buildTests, headFrom, madeFrom, over, program, refused, unless}
+use Rattle.paper.specs.Refusals.{Reply, Test, answer, build, buildTests, headFrom, madeFrom, program, refused, unless}
 use Rattle.paper.specs.Row.{Row}
 use Rattle.laws.specs.Built.{BuiltSet}
 use Rattle.laws.proofs.BuiltSets.{built-good, built-is, built-right}
@@ -27,9 +26,9 @@ use Rattle.laws.proofs.SoundTest.{is-sound}
 use Rattle.build.specs.Face.{Builds}
 use Rattle.sound.specs.Face.{Counts}
 use Rattle.list.specs.declared.page.Page.{Page}
-use Rattle.list.specs.Listing.{Going, Listable, Lists, Ready, Roomy, Rows, Tells, headOf, linesTo, setText}
+use Rattle.list.specs.Listing.{Going, Lists, Ready, Rows, Tells, headOf, linesTo, setText}
 use Rattle.list.specs.Page.{Facts, Opens, Refuses, opened}
-use Rattle.list.specs.Text.{factText, programText, recordsWord, refusedWord, rowsWord}
+use Rattle.list.specs.Text.{factText, programText, recordsWord, rowsWord}
 use Rattle.list.proofs.LinesText.{to-all}
 
 -- ---- the program

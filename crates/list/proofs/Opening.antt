@@ -15,7 +15,7 @@ use Rattle.paper.specs.declared.Written.{Written}
 use Rattle.paper.specs.declared.Written.the-variants as WrittenIs
 use Rattle.paper.specs.Answers.{numberOf, saysBuilt, saysCounted, saysWritten}
 use Rattle.list.specs.declared.page.Page.{Page}
-use Rattle.list.specs.Page.{Facts, Lines, Opens, Refuses, RowThere, ended, lined, opened, roomy}
+use Rattle.list.specs.Page.{Facts, Lines, Opens, Refuses, RowThere, ended, lined, opened, withRoom}
 use Rattle.list.specs.Text.{Puts, lineText}
 
 pub opens-refused : (b : Built) (n : Counted) (why : Refusal) (t : Page) (text : List ℕ) → b ≡ BuiltIs.Refused why
@@ -50,15 +50,15 @@ after t end next = record {
   going = ltb (t .number + 1) (t .rows);
 }
 
-after-is : (t : Page) (room end : ℕ) → after t end (roomy room t) ≡ lined (roomy room t) end
+after-is : (t : Page) (room end : ℕ) → after t end (withRoom room t) ≡ lined (withRoom room t) end
 after-is t room end = go (leb 85 (room - t .bytes)) refl
   where
-    go : (c : Bool) → leb 85 (room - t .bytes) ≡ c → after t end (roomy room t) ≡ lined (roomy room t) end
+    go : (c : Bool) → leb 85 (room - t .bytes) ≡ c → after t end (withRoom room t) ≡ lined (withRoom room t) end
     go true e = rw e
     go false e = rw e
 
 pub lines-put : (t : Page) (w : Written) (row text : List ℕ) (next : Page) (end : ℕ) (text′ : List ℕ) → w ≡ WrittenIs.Row
-    → next ≡ roomy (length text) t → Puts (lineText (take (t .places) row)) (next .bytes) text end text′
+    → next ≡ withRoom (length text) t → Puts (lineText (take (t .places) row)) (next .bytes) text end text′
     → Lines t (saysWritten w) row text (after t end next) text′
 lines-put t w row text next end text′ e f p =
     rw e (

@@ -1,9 +1,9 @@
 -- The rows of a sound set: each has an entry for each place, and they are no more than a record may list.
-use mathlib.Core.List.{List, List·Memᴰ·not-nil, [], _∷_}
+use mathlib.Core.List.{List, List·Memᴰ·not-nil}
 use mathlib.Core.Path.{_∙_, _≡_, ap}
-use Prim.Native.Nat.{_≤_, ℕ}
+use Prim.Native.Nat.{_≤_}
 use native.Mathlib.Omega.{arith}
-use lib.ListN.{getD, length, length-replicate}
+use lib.ListN.{length, length-replicate}
 use lib.Seq.{length-take-le}
 use Rattle.paper.specs.declared.Head.{Head}
 use Rattle.paper.specs.declared.Record.{Record}

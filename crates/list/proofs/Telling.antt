@@ -1,13 +1,13 @@
 -- The loop over the rows, on plain values. First how far the text is told, as a line is put; then what `row` answers; then what holds before each
 -- turn, that a turn keeps it, and what it says where the loop ends.
 use mathlib.Core.Bool.{Bool, false, true, true≢false}
-use mathlib.Core.List.{List, [], _++_, append-assoc, append-nil}
+use mathlib.Core.List.{List, _++_, append-assoc, append-nil}
 use mathlib.Core.Path.{_∙_, _≡_, ap, refl, subst, sym}
-use Prim.Native.Nat.{_+_, _-_, _<_, _^_, _≤_, ℕ}
+use Prim.Native.Nat.{_+_, _-_, _<_, _≤_, ℕ}
 use native.Mathlib.Omega.{arith}
-use borrow.Author.Tests.{le-leb, leb-false, leb-true, lt-ltb, ltb-false, ltb-true}
-use lib.Dec.{leb, ltb}
-use lib.ListN.{drop, getD, length, length-append, take}
+use borrow.Author.Tests.{le-leb, lt-ltb, ltb-false, ltb-true}
+use lib.Dec.{leb}
+use lib.ListN.{drop, length, length-append, take}
 use lib.Seq.{take-at}
 use Rattle.paper.specs.declared.Head.{Head}
 use Rattle.paper.specs.declared.Record.{Record}
@@ -24,8 +24,8 @@ use Rattle.laws.proofs.SoundTest.{sound-is}
 use Rattle.row.specs.Face.{Numbers}
 use Rattle.row.proofs.RowNumbers.{row-listed}
 use Rattle.list.specs.declared.page.Page.{Page}
-use Rattle.list.specs.Listing.{Going, Listable, Ready, Roomy, Rows, Tells, linesTo, setText}
-use Rattle.list.specs.Page.{Linable, Lines, RowThere, emptied, lined, roomy}
+use Rattle.list.specs.Listing.{Fits, Going, Listable, Ready, Rows, Tells, linesTo, setText}
+use Rattle.list.specs.Page.{LineReady, Lines, RowThere, emptied, lined, withRoom}
 use Rattle.list.specs.Text.{Puts, lineText, linesText}
 use Rattle.list.proofs.LinesText.{line-short, to-all, to-more, to-short, to-whole}
 use Rattle.list.proofs.SoundRows.{rows-few, rows-long}
@@ -40,10 +40,10 @@ empty-tells far rest t text T = record {
   within = omega arith;
 }
 
-room-tells : (far rest : List ℕ) (t : Page) (text : List ℕ) → Tells (far ++ rest) far t text → Tells (far ++ rest) far (roomy (length text) t) text
+room-tells : (far rest : List ℕ) (t : Page) (text : List ℕ) → Tells (far ++ rest) far t text → Tells (far ++ rest) far (withRoom (length text) t) text
 room-tells far rest t text T = go (leb 85 (length text - t .bytes)) refl
   where
-    go : (c : Bool) → leb 85 (length text - t .bytes) ≡ c → Tells (far ++ rest) far (roomy (length text) t) text
+    go : (c : Bool) → leb 85 (length text - t .bytes) ≡ c → Tells (far ++ rest) far (withRoom (length text) t) text
     go true e = rw e T
     go false e = rw e (empty-tells far rest t text T)
 
@@ -64,10 +64,10 @@ pub record Same (t u : Page) : Type 0 where
   pub rows : u .rows ≡ t .rows
   pub places : u .places ≡ t .places
 
-room-same : (room : ℕ) (t : Page) → Same t (roomy room t)
+room-same : (room : ℕ) (t : Page) → Same t (withRoom room t)
 room-same room t = go (leb 85 (room - t .bytes)) refl
   where
-    go : (c : Bool) → leb 85 (room - t .bytes) ≡ c → Same t (roomy room t)
+    go : (c : Bool) → leb 85 (room - t .bytes) ≡ c → Same t (withRoom room t)
     go true e = rw e (record { number = refl; rows = refl; places = refl })
     go false e = rw e (record { number = refl; rows = refl; places = refl })
 
@@ -120,7 +120,7 @@ falls x = x .page .rows - x .page .number
 
 module _ (h : Head) (table : List Record) (s : Page) (text : List ℕ) where
   pub record Before (x : Hand) : Type 0 where
-    pub room : Roomy (x .page) (x .text)
+    pub room : Fits (x .page) (x .text)
     pub none : s .going ≡ false → (x .page ≡ s) × (x .text ≡ text)
     pub goes : s .going ≡ true → Listable h table (length (x .work)) × Going h table (x .page) (x .text)
 
@@ -169,7 +169,7 @@ module _ (h : Head) (table : List Record) (s : Page) (text : List ℕ) where
         subst (λ (a : Reply (Unit {0})). RowThere (t .places) a o′) (sym said)
         (omega (arith, G .places, is-sound h table (length (x .work)) able .few-places), omega (arith, G .places, row-fits h table (length (x .work)) able (t .number) below (x .work) (x .row) refl places r w′ o′ N))
 
-    pub asks : Linable t (saysWritten r) o′ (x .text)
+    pub asks : LineReady t (saysWritten r) o′ (x .text)
     asks = record {
       long = B .room .long;
       short = B .room .short;
@@ -183,7 +183,7 @@ module _ (h : Head) (table : List Record) (s : Page) (text : List ℕ) where
     module _ (t′ : Page) (m′ : List ℕ) (work-long : length w′ ≡ length (x .work)) (text-long : length m′ ≡ length (x .text))
         (L : Lines t (saysWritten r) o′ (x .text) t′ m′) where
       abbrev room : Page
-      room = roomy (length (x .text)) t
+      room = withRoom (length (x .text)) t
 
       abbrev line : List ℕ
       line = lineText (take (t .places) o′)

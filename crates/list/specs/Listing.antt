@@ -14,7 +14,6 @@ use Rattle.paper.specs.declared.Set.the-variants as SetIs
 use Rattle.paper.specs.Questions.{countOf, questionWork}
 use Rattle.paper.specs.Records.{listing}
 use Rattle.paper.specs.Refusals.{answer, program}
-use Rattle.paper.specs.Row.{Row}
 use Rattle.paper.specs.Sound.{sound}
 use Rattle.list.specs.Text.{factText, linesText, programText, recordsWord, rowsWord}
 
@@ -29,8 +28,8 @@ pub record Tells (whole far : List ℕ) (t : Page) (text : List ℕ) : Type 0 wh
   pub bytes : t .told + t .bytes ≡ length far
   pub within : t .bytes ≤ length text
 
--- the buffer holds the first lines and a row's, and what waits
-pub record Roomy (t : Page) (text : List ℕ) : Type 0 where
+-- the buffer is long enough for a line, and holds what waits
+pub record Fits (t : Page) (text : List ℕ) : Type 0 where
   pub long : 85 ≤ length text
   pub short : length text ≤ 65536
   pub within : t .bytes ≤ length text
@@ -58,7 +57,7 @@ module _ (h : Head) (table : List Record) where
 
   -- what `rows` asks for, and what it does: nothing if no row is to be told, else all of the set is told
   pub record Ready (s : Page) (work text : List ℕ) : Type 0 where
-    pub room : Roomy s text
+    pub room : Fits s text
     pub goes : s .going ≡ true → Listable (length work) × Going s text
 
   pub record Rows (s : Page) (text : List ℕ) (r : Page) (text′ : List ℕ) : Type 0 where

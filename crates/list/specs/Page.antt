@@ -44,8 +44,8 @@ emptied t = record {
 }
 
 -- the page before a line of at most 85 bytes is put into so much room
-abbrev pub roomy : ℕ → Page → Page
-roomy room t = cond (leb 85 (room - t .bytes)) t (emptied t)
+abbrev pub withRoom : ℕ → Page → Page
+withRoom room t = cond (leb 85 (room - t .bytes)) t (emptied t)
 
 -- the line is put behind what waits; or none, and the listing ends
 abbrev pub lined : Page → ℕ → Page
@@ -66,7 +66,7 @@ abbrev pub RowThere : ℕ → Reply (Unit {0}) → List ℕ → Type 0
 RowThere places (refused n) row = Unit {0}
 RowThere places (answer a) row = (places ≤ 4) × (places ≤ length row)
 
-pub record Linable (t : Page) (written : Reply (Unit {0})) (row text : List ℕ) : Type 0 where
+pub record LineReady (t : Page) (written : Reply (Unit {0})) (row text : List ℕ) : Type 0 where
   pub long : 85 ≤ length text
   pub short : length text ≤ 65536
   pub within : t .bytes ≤ length text
@@ -77,4 +77,4 @@ pub record Linable (t : Page) (written : Reply (Unit {0})) (row text : List ℕ)
 abbrev pub Lines : Page → Reply (Unit {0}) → List ℕ → List ℕ → Page → List ℕ → Type 0
 Lines t (refused n) row text t′ text′ = t′ ≡ ended t
 Lines t (answer a) row text t′ text′ =
-    Puts (lineText (take (t .places) row)) (roomy (length text) t .bytes) text (t′ .bytes) text′ × (t′ ≡ lined (roomy (length text) t) (t′ .bytes))
+    Puts (lineText (take (t .places) row)) (withRoom (length text) t .bytes) text (t′ .bytes) text′ × (t′ ≡ lined (withRoom (length text) t) (t′ .bytes))

@@ -82,6 +82,7 @@ fn answer(input: &[u8], text: &mut [u8]) -> Page
     list(input, &mut *text)
 }
 
+// One byte more is read than the program takes, to see an input that is too long.
 fn main() {
     let mut input = [0u8; 16385];
     let mut text = io::large_buffer();

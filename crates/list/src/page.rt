@@ -3,7 +3,7 @@ ghost use mathlib.Core.Path.{_≡_};
 ghost use Prim.Native.Nat.{_+_, _≤_, _<_, _^_};
 ghost use lib.ListN.{length};
 ghost use Rattle.paper.specs.Answers.{numberOf, saysBuilt, saysCounted, saysWritten};
-ghost use Rattle.list.specs.Page.{Facts, Refuses, Opens, Linable, Lines, roomy};
+ghost use Rattle.list.specs.Page.{Facts, Refuses, Opens, LineReady, Lines, withRoom};
 use crate::text::put_fact;
 use crate::text::put_row;
 use libc::STDOUT_FILENO;
@@ -13,7 +13,7 @@ use paper::Head;
 use paper::Refusal;
 use paper::Written;
 
-// `number` is the next row's, of so many rows with so many places. So many bytes are told, and `bytes` of the text wait.
+// `number` is the next row's, of so many rows with so many places. `told` bytes have been written, and `bytes` of the text wait.
 pub(crate) struct Page {
     pub(crate) number: u64,
     pub(crate) rows: u64,
@@ -105,10 +105,10 @@ pub(crate) fn open_page(built: Built, counted: Counted, text: &mut [u8]) -> Page
     }
 }
 
-// What waits is written, if a line might not fit behind it.
+// What waits is written and counted as told, if a line might not fit behind it. Nothing else counts bytes as told.
 fn make_room(t: Page, text: &[u8]) -> Page
     requires { ⌜ (t .bytes ≤ length (now text)) × (t .told + t .bytes < 2 ^ 64) ⌝ }
-    ensures { λ r. ⌜ r ≡ roomy (length (now (text .entry))) t ⌝ }
+    ensures { λ r. ⌜ r ≡ withRoom (length (now (text .entry))) t ⌝ }
 {
     let bytes = t.bytes;
     if text.len() - bytes >= 85 {
@@ -123,7 +123,7 @@ fn make_room(t: Page, text: &[u8]) -> Page
 
 // The line of the next row, which stands in `row` if it was written there.
 pub(crate) fn put_line(t: Page, written: Written, row: &[u16], text: &mut [u8]) -> Page
-    requires { ⌜ Linable t (saysWritten written) (now row) (now text) ⌝ }
+    requires { ⌜ LineReady t (saysWritten written) (now row) (now text) ⌝ }
     ensures { λ r. ⌜ Lines t (saysWritten written) (now (row .entry)) (now (text .entry)) r (now (text .exit)) ⌝ }
 {
     let mut next = t;

@@ -13,7 +13,7 @@ use base.Fml.{fdies}
 use mathlib.Core.List.{_++_}
 use lib.ListN.{drop as past, take}
 use denote.Slice.{shr-slice-copy}
-use Rattle.table.proofs.Steps.{Typed, elements, part, sets, slice-typed, value}
+use Rattle.table.proofs.Steps.{elements, part, sets, slice-typed, value}
 use Rattle.table.proofs.Parameters.{by-value, goes-gone, goes-shown, goes-still, gone, shown, still}
 use Rattle.table.proofs.Locals.{Blocks, bare, enters, envOf, finish, full, leaves, locals, span}
 use Rattle.table.proofs.Loops.{Onward, again, tests, whiles}
@@ -38,7 +38,7 @@ use Rattle.row.proofs.row.Symbol.{name as #row}
 use Rattle.row.proofs.row.Met as row-thm
 use Rattle.list.specs.declared.page.Page.{Page}
 use Rattle.list.specs.Listing.{Ready, Rows}
-use Rattle.list.specs.Page.{Linable, Lines}
+use Rattle.list.specs.Page.{LineReady, Lines}
 use Rattle.list.proofs.PageShape.{number-field, shape}
 use Rattle.list.proofs.Telling.{Before, Hand, asks, falls, onward, starts, stops}
 use Rattle.list.proofs.page.Page as P
@@ -154,7 +154,7 @@ module _ {M : Type 1} (𝓤 : URA M) (H : Heap 𝓤) (A : Atoms 𝓤) (W : Given
     )
 
     goes-put : (l : ℕ) (t : Page) → Is P.the-row t (machine shape t ∷ []) → (r : Written) → Good written r → (out m : List ℕ)
-        → Linable t (saysWritten r) out m → (νʳ : ℕ) (δʳ : GName) (νᵗ : ℕ) (δᵗ : GName)
+        → LineReady t (saysWritten r) out m → (νʳ : ℕ) (δʳ : GName) (νᵗ : ℕ) (δᵗ : GName)
         → ent 𝓤 (⋆ 𝓤 H A (‵ (flft (νʳ ∷ []) fullShare) ∷ ‵ (flft (νᵗ ∷ []) fullShare) ∷ ‵ (Seen u16 l 0 (νʳ ∷ []) δʳ 4 out)
         ∷ ‵ (Mine u8 bᵗ oᵗ (νᵗ ∷ []) δᵗ (length text) m) ∷ []))
         (Put .pre (to-put l t r out m νʳ δʳ νᵗ δᵗ))

@@ -1,5 +1,4 @@
 -- `text::put_byte` puts one byte.
-use mathlib.Core.List.{List}
 use mathlib.Core.Path.{_∙_, ap, refl}
 use Prim.Native.Nat.{ℕ}
 use native.Mathlib.Numerals.{add-one}
