@@ -1,13 +1,12 @@
 -- The law of a function for C that asks a question with a lent output: the head is read, the question asked and its answer told, in a straight line.
 -- First what the law is of (`Law`), then the signatures and the contracts, the function's MIR, and the walk: `output-told`.
 -- Assumes `Given`.
-use Rattle.table.proofs.Prelude.{ !, Atoms, Clauses, Contract, Ended, Fun, Given, Heap, List, Meets, Memory, RattleType, Room, Routine, SProp, Tables, Triple, Ty}
-use Rattle.table.proofs.Prelude.{URA, Val, WpFn, [], _$_, _⊛_, _∵_, _∷_, _≡_, agg, and-then, by, closing, done, drop, emp, ent, fact, fjoin, flft, fmOf, frame}
-use Rattle.table.proofs.Prelude.{from, fsplit, ftrue, heard, id⊢, init, join, keep, land, length, move, named, no-more, nothing, now, onEntry, owns, pointee, qed}
-use Rattle.table.proofs.Prelude.{raw, refl, slice-vals, sliceTy, sliceVal, split, stop, suffices, tyInt, u16, u64, u8, uint-lawful, uint-tells, use1, vint, w16, w64, w8, yes}
-use Rattle.table.proofs.Prelude.{givenOf, mut-slice-tells, shr-slice-tells, subst, tables, tablesOf, ‵, ⋆, ℕ}
-use mir.Syntax.{Fn, Name, addrOf, aggregate, assign, call, copy, deref, erased, field, imm, mut, place, return, seq, tyArray, tyRef}
-use mir.Val.{vptr}
+use Rattle.table.proofs.Prelude.{ !, Atoms, Clauses, Contract, Ended, Given, Heap, List, RattleType, Room, Tables, Triple, Ty, URA, Vals, WpFn, []}
+use Rattle.table.proofs.Prelude.{_$_, _∵_, _∷_, _≡_, _⊛_, agg, and-then, done, drop, emp, ent, fact, fjoin, flft, fmOf, frame, from, fsplit, ftrue}
+use Rattle.table.proofs.Prelude.{givenOf, heard, id⊢, init, join, keep, land, length, move, mut-slice-tells, named, no-more, nothing, now, onEntry}
+use Rattle.table.proofs.Prelude.{owns, pointee, qed, raw, refl, shr-slice-tells, slice-vals, sliceTy, split, stop, subst, suffices, tables, tablesOf}
+use Rattle.table.proofs.Prelude.{tyInt, u16, u64, u8, uint-lawful, uint-tells, use1, vint, w64, w8, yes, ‵, ℕ}
+use mir.Syntax.{Fn, Name, addrOf, aggregate, assign, call, copy, deref, erased, field, imm, mut, place, return, seq, tyRef}
 use package.contract.Lifetimes.{Lfts, Shares}
 use package.contract.Monad.{factI}
 use package.contract.Running.{GhostRules, Running}
@@ -15,23 +14,21 @@ use prog.Model.{Model}
 use prog.Routine.{Env as REnv}
 use prog.Wp.{Closed}
 use denote.Array.{Array}
-use denote.Laws.{Is}
 use denote.Plain.{uint-makes}
-use denote.Ref.{ptr-vals, shr-tells}
+use denote.Ref.{RefT, ptr-vals, shr-tells}
+use denote.RattleType.{flat}
 use denote.Signature.{shrRefTo, typesAt}
 use denote.Signature.Array.{arrayOf}
-use denote.Triple.Clauses.{Lasts, lasts}
 use denote.Triple.Entry.{Args, alive}
 use Rattle.table.proofs.Calls.{contract}
 use Rattle.table.proofs.Entries.{Entry}
 use Rattle.table.proofs.Locals.{enters, full, leaves, span, var}
 use Rattle.table.proofs.Parameters.{by-value, lent, shown}
 use Rattle.table.proofs.Steps.{elements, part, sets, slice-typed, value}
-use Rattle.table.proofs.Values.{Good, Of, Value, owns-value, struct}
+use Rattle.table.proofs.Values.{Good, Of, Value, owns-value}
 use Rattle.paper.specs.declared.Head.{Head}
 use Rattle.paper.specs.declared.Record.{Record}
-use Rattle.paper.proofs.Head as D
-use Rattle.paper.proofs.Head.Laws as D′
+use Rattle.sound.proofs.Heads.{head}
 use Rattle.c.specs.Told.{headOf}
 use Rattle.c.proofs.Passing.{ends, passed-on, passes}
 
@@ -46,9 +43,6 @@ pub record Types : Type 2 where
   pub number : Value
   pub output : RattleType
   pub answer : Value
-
-abbrev head : Value
-head = struct D.the-type D′.the-laws D′.the-plain D′.the-copy
 
 -- the clauses of the contracts, and what is to be shown of them
 pub record Law (T : Types) : Type 1 where
@@ -164,52 +158,52 @@ module _ (T : Types) (L : Law T) {M : Type 1} (𝓤 : URA M) where
       abbrev a : Args (ended T .signature) κs
       a = y .0 .3
 
-      -- ---- what each call is handed
+      -- the parameters
+      abbrev numbers : RefT (List ℕ)
+      numbers = a .0
+
+      abbrev table : RefT (List Record)
+      table = a .1 .0
+
+      abbrev work : RefT (List ℕ)
+      work = a .1 .1 .0
+
+      abbrev number : Of (T .number)
+      number = a .1 .1 .1 .0
+
+      abbrev out : RefT (List (T .output .Denot))
+      out = a .1 .1 .1 .1 .0
+
+      abbrev machines : Vals (ended T .signature) κs
+      machines = (ptr-vals numbers, (slice-vals table, (slice-vals work, (T .number .low number ∷ [], (slice-vals out, tt)))))
+
+      -- what each call is handed
       abbrev to-head : HeadOf .Ghost
-      to-head = (((κs .0, tt), (qs .0, tt), tt, (a .0, tt), (ptr-vals (a .0), tt)), tt)
-
-      abbrev Rest : Type 0
-      Rest = List Val × (List Val × (List Val × (List Val × Unit {0})))
-
-      abbrev rest : Rest
-      rest = (slice-vals (a .1 .0), (slice-vals (a .1 .1 .0), (T .number .low (a .1 .1 .1 .0) ∷ [], (slice-vals (a .1 .1 .1 .1 .0), tt))))
+      to-head = (((κs .0, tt), (qs .0, tt), tt, (numbers, tt), (ptr-vals numbers, tt)), tt)
 
       abbrev to-ask : Head → Ask .Ghost
-      to-ask h = ((κs .1, qs .1, tt, (h, a .1), (head .low h ∷ [], rest)), tt)
+      to-ask h = ((κs .1, qs .1, tt, (h, a .1), (head .low h ∷ [], machines .1)), tt)
 
       abbrev to-tell : Of (T .answer) → Tell .Ghost
       to-tell r = ((tt, tt, tt, (r, tt), (T .answer .low r ∷ [], tt)), tt)
 
-      exits : (n : ℕ) → Is u8 n (vint w8 n ∷ []) → (h : Head) (us : Lasts (ask-ended T) (κs .1) (h, a .1))
-          → L .Tells (now (a .0)) (now (a .1 .0)) (now (a .1 .1 .0)) (a .1 .1 .1 .0) (now (a .1 .1 .1 .1 .0)) n (us .1 .1 .0) (us .1 .1 .1 .1 .0)
-          → ent 𝓤 (⋆ 𝓤 H A (raw (alive 𝓤 H A (head-ended .signature) (κs .0, tt) (qs .0, tt)) ∷ raw (alive 𝓤 H A (ask-ended T .signature) (κs .1) (qs .1))
-          ∷ ‵ (lasts (ask-ended T) (κs .1) (h, a .1) us) ∷ [])) (Own .post y (vint w8 n))
-      exits n good h us e =
-          qed W (raw (alive 𝓤 H A (head-ended .signature) (κs .0, tt) (qs .0, tt)) ∷ raw (alive 𝓤 H A (ask-ended T .signature) (κs .1) (qs .1))
-          ∷ ‵ (lasts (ask-ended T) (κs .1) (h, a .1) us) ∷ []) ∵
-          suffices ! _ (ends 𝓤 H A W (ended T) clauses y (vint w8 n) n (uint-makes 𝓤 H A W w8) good (tt, us .1) (factI 𝓤 _ (emp 𝓤) e)) $
-          use1 W (‵ (flft (κs .0) (qs .0)) ⊛ ‵ ftrue) (id⊢ 𝓤 _) $ split ! $ move ! (0 ∷ 2 ∷ []) $ join ! $ frame ! $
-          move ! (1 ∷ []) $ fsplit ! $ drop ! $ move ! (1 ∷ 0 ∷ []) $ fjoin ! $ done !
-
       module _ (ω : Ty) (head-of ask tell : Name) (𝓣 : Tables 𝓤 H) (known-head : Triple 𝓤 (𝓣 .C head-of) HeadOf) (known-ask : Triple 𝓤 (𝓣 .C ask) Ask)
-          (known-tell : Triple 𝓤 (𝓣 .C tell) Tell) (table-room : Room Entry (length (now (a .1 .0)))) (work-room : Room u64 (length (now (a .1 .1 .0))))
-          (number-good : Good (T .number) (a .1 .1 .1 .0)) (out-room : Room (T .output) (length (now (a .1 .1 .1 .1 .0)))) where
-        walk : ent 𝓤 (onEntry 𝓤 H A (ended T .signature) κs qs a (ptr-vals (a .0), rest))
-            (WpFn 𝓤 H (𝓣 .C) (𝓣 .Λ) (function T ω head-of ask tell) (vptr (a .0 .ptr .0) (a .0 .ptr .1) ∷ sliceVal (a .1 .0 .ptr) (length (now (a .1 .0)))
-            ∷ sliceVal (a .1 .1 .0 .ptr) (length (now (a .1 .1 .0))) ∷ T .number .low (a .1 .1 .1 .0)
-            ∷ sliceVal (a .1 .1 .1 .1 .0 .ptr) (length (now (a .1 .1 .1 .1 .0))) ∷ []) (Own .post y))
+          (known-tell : Triple 𝓤 (𝓣 .C tell) Tell) (table-room : Room Entry (length (now table))) (work-room : Room u64 (length (now work)))
+          (number-good : Good (T .number) number) (out-room : Room (T .output) (length (now out))) where
+        walk : ent 𝓤 (onEntry 𝓤 H A (ended T .signature) κs qs a machines)
+            (WpFn 𝓤 H (𝓣 .C) (𝓣 .Λ) (function T ω head-of ask tell) (flat (typesAt (ended T .signature .params) κs) machines) (Own .post y))
         walk =
             qed W ((‵ (flft (κs .0) (qs .0)) ⊛ raw (alive 𝓤 H A (ask-ended T .signature) (κs .1) (qs .1)))
-            ∷ ‵ (owns (typesAt (ended T .signature .params) κs) a (ptr-vals (a .0), rest)) ∷ []) ∵
+            ∷ ‵ (owns (typesAt (ended T .signature .params) κs) a machines) ∷ []) ∵
             enters ! (𝓣 .C) (𝓣 .Λ) (function T ω head-of ask tell) _ (Own .post y)
-            (λ bs. ((tt, tt), (slice-typed (table-room .0), (slice-typed (work-room .0), (T .number .typed 𝓤 H A W (a .1 .1 .1 .0) number-good, (slice-typed (out-room .0), tt)))))) (λ bs.
+            (λ bs. ((tt, tt), (slice-typed (table-room .0), (slice-typed (work-room .0), (T .number .typed 𝓤 H A W number number-good, (slice-typed (out-room .0), tt)))))) (λ bs.
             -- [local j at 2 * j; the tokens; what the parameters own]
             move ! (24 ∷ 25 ∷ []) $ split ! $ move ! (2 ∷ []) $ fsplit ! $
             -- [the head; the rest; the head's token; the other tokens; local j at 4 + 2 * j]
             nothing ! $ move ! (3 ∷ 0 ∷ []) $ join ! $ nothing ! $ move ! (2 ∷ 0 ∷ []) $ fjoin ! $ move ! (1 ∷ 0 ∷ []) $
             passes ! (fmOf 𝓤 H (W .laws) 𝓣) head-ended head-clauses known-head to-head (id⊢ 𝓤 _) (id⊢ 𝓤 _) (id⊢ 𝓤 _) (head .low) (head .tells)
             (and-then ! (value ! 5 refl) (no-more !))
-            (λ h ls good. heard ! (h ≡ headOf (now (a .0))) (λ is. move ! (1 ∷ []) $ drop ! $
+            (λ h ls good. heard ! (h ≡ headOf (now numbers)) (λ is. move ! (1 ∷ []) $ drop ! $
             -- [the head's token; the rest; the other tokens; local j at 3 + 2 * j]
             land ! (from ! (stop !)) (init ! 15 refl (head .typed 𝓤 H A W h good)) $
             sets ! 19 refl (elements ! 9 refl refl refl refl) (tt, tt) $
@@ -219,7 +213,7 @@ module _ (T : Types) (L : Law T) {M : Type 1} (𝓤 : URA M) where
             move ! (1 ∷ 2 ∷ []) $ owns-value head ! h good $ fjoin ! $ move ! (1 ∷ 0 ∷ []) $
             passes ! (fmOf 𝓤 H (W .laws) 𝓣) (ask-ended T) ask-clauses known-ask (to-ask h) (id⊢ 𝓤 _) (id⊢ 𝓤 _) (id⊢ 𝓤 _) (T .answer .low) (T .answer .tells)
             (and-then ! (value ! 14 refl) (and-then ! (value ! 6 refl) (and-then ! (value ! 20 refl) (and-then ! (value ! 10 refl) (and-then ! (value ! 24 refl) (no-more !))))))
-            (λ r us good-answer. heard ! (L .Asks h (now (a .1 .0)) (now (a .1 .1 .0)) (a .1 .1 .1 .0) (now (a .1 .1 .1 .1 .0)) r (us .1 .1 .0) (us .1 .1 .1 .1 .0)) (λ asked.
+            (λ r us good-answer. heard ! (L .Asks h (now table) (now work) number (now out) r (us .1 .1 .0) (us .1 .1 .1 .1 .0)) (λ asked.
             -- [the other tokens; the last values; the head's token; local j at 3 + 2 * j]
             land ! (from ! (stop !)) (init ! 17 refl (T .answer .typed 𝓤 H A W r good-answer)) $
             nothing ! $ owns-value (T .answer) ! r good-answer $ fjoin ! $ nothing ! $
@@ -228,9 +222,12 @@ module _ (T : Types) (L : Law T) {M : Type 1} (𝓤 : URA M) where
             (λ n vs good-number. heard ! (L .Says r n) (λ says.
             land ! (from ! (stop !)) (init ! 5 refl (uint-lawful 𝓤 H A W w8 .typed n _ good-number .0)) $
             move ! (span 5 24) $ leaves ! (vint w8 n) (full _ ∷ full _ ∷ full _ ∷ full _ ∷ full _ ∷ full _ ∷ full _ ∷ full _ ∷ full _ ∷ full _ ∷ full _ ∷ []) $
-            keep ! (4 ∷ 2 ∷ 3 ∷ []) $
-            by ! (exits n good-number h us
-            (L .tells (now (a .0)) (now (a .1 .0)) (now (a .1 .1 .0)) (a .1 .1 .1 .0) (now (a .1 .1 .1 .1 .0)) r (us .1 .1 .0) (us .1 .1 .1 .1 .0) n (subst (λ (x : Head). L .Asks x (now (a .1 .0)) (now (a .1 .1 .0)) (a .1 .1 .1 .0) (now (a .1 .1 .1 .1 .0)) r (us .1 .1 .0) (us .1 .1 .1 .1 .0)) is asked) says)))))))))
+            -- the tokens, then what is said of the last values
+            suffices ! _ (ends 𝓤 H A W (ended T) clauses y (vint w8 n) n (uint-makes 𝓤 H A W w8) good-number (tt, us .1) (factI 𝓤 _ (emp 𝓤)
+            (L .tells (now numbers) (now table) (now work) number (now out) r (us .1 .1 .0) (us .1 .1 .1 .1 .0) n
+            (subst (λ (x : Head). L .Asks x (now table) (now work) number (now out) r (us .1 .1 .0) (us .1 .1 .1 .1 .0)) is asked) says))) $
+            move ! (4 ∷ []) $ use1 W (‵ (flft (κs .0) (qs .0)) ⊛ ‵ ftrue) (id⊢ 𝓤 _) $ split ! $ move ! (0 ∷ 4 ∷ []) $ join ! $ frame ! $
+            move ! (3 ∷ []) $ fsplit ! $ drop ! $ nothing ! $ fjoin ! $ keep ! (0 ∷ []) $ done !)))))))
 
 -- ---- the function meets its contract, where each function that it calls meets its own. The proof's own line says `unfolding code.routine tablesOf`
 module _ (T : Types) (L : Law T) {M : Type 1} (𝓤 : URA M) (H : Heap 𝓤) (𝓜 : Model 𝓤 H) (𝓖 : GhostRules 𝓤 H) (𝓡 : Running 𝓤 H 𝓜) (γ : REnv) (k : Name)

@@ -35,19 +35,17 @@ told-told : {A B C : Type 0} (g : B → C) (f : A → B) (x : Reply A) → told 
 told-told g f (refused n) = refl
 told-told g f (answer a) = refl
 
-module _ (work : List ℕ) (r : ℕ) (work′ : List ℕ) where
-  pub tells-build : (input : List ℕ) (table : List Record) (head : List ℕ) (b : Built) (table′ : List Record) (head′ : List ℕ)
-      → Builds input work table b work′ table′ → Tells (told headNumbers (saysBuilt b)) head r head′
-      → TellsBuild input work table head r work′ table′ head′
-  tells-build input table head b table′ head′ builds tells =
-      let reply = build input (length work) (length table) in
-      let says = ap (told headNumbers) (builds .answer) ∙ told-told headNumbers (λ a. a .0) reply in
-      record {
-        number = tells .number ∙ ap code says ∙ code-told (λ a. headNumbers (a .0)) reply;
-        worked = builds .worked;
-        written = builds .written;
-        shown = tells .shown ∙ ap (λ x. answerAfter x head) says;
-      }
+pub tells-build : (input work : List ℕ) (table : List Record) (head : List ℕ) (b : Built) (r : ℕ) (work′ : List ℕ) (table′ : List Record) (head′ : List ℕ)
+    → Builds input work table b work′ table′ → Tells (told headNumbers (saysBuilt b)) head r head′ → TellsBuild input work table head r work′ table′ head′
+tells-build input work table head b r work′ table′ head′ builds tells =
+    let reply = build input (length work) (length table) in
+    let says = ap (told headNumbers) (builds .answer) ∙ told-told headNumbers (λ a. a .0) reply in
+    record {
+      number = tells .number ∙ ap code says ∙ code-told (λ a. headNumbers (a .0)) reply;
+      worked = builds .worked;
+      written = builds .written;
+      shown = tells .shown ∙ ap (λ x. answerAfter x head) says;
+    }
 
 -- the questions. What is asked is asked of the head that the numbers say
 module _ (head : List ℕ) (table : List Record) (work : List ℕ) where

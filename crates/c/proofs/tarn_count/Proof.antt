@@ -1,28 +1,27 @@
 -- `c::tarn_count` meets its contract: a walk of its MIR, by hand. It is a straight line, and each parameter is passed on for good.
 -- Assumes nothing.
-use Rattle.table.proofs.Prelude.{suffices, frame, done, subst}
-use Rattle.table.proofs.Prelude.{ !, Atoms, Contract, Fun, Given, Heap, List, Memory, Room, Routine, SProp, Tables, Triple, URA, Val, WpFn, [], _$_, _⊛_, _∵_}
-use Rattle.table.proofs.Prelude.{_∷_, _≡_, agg, and-then, by, cited, drop, emp, ent, fjoin, flft, fmOf, from, fsplit, ftrue, givenOf, group, heard, id⊢, init, join}
-use Rattle.table.proofs.Prelude.{keep, land, length, look, move, mut-slice-tells, named, no-more, nothing, now, onEntry, owns, qed, refl, hop, addr}
-use Rattle.table.proofs.Prelude.{shr-slice-tells, slice-vals, sliceVal, split, split3, stop, tables, tablesOf, u16, u64, u8, uint-lawful, uint-tells, use1, vint, w8, ‵, ℕ}
-use mir.Val.{vptr}
+use Rattle.table.proofs.Prelude.{ !, Atoms, Contract, Fml, Fun, Given, Heap, List, Memory, RefT, Room, Routine, SProp, Tables, Triple, URA, Vals, WpFn}
+use Rattle.table.proofs.Prelude.{[], _$_, _∵_, _∷_, _≡_, _⊛_, addr, agg, and-then, cited, done, drop, emp, ent, fjoin, flft, fmOf, frame, from}
+use Rattle.table.proofs.Prelude.{fsplit, ftrue, givenOf, heard, hop, id⊢, init, join, keep, land, length, look, move, mut-slice-tells, named, no-more}
+use Rattle.table.proofs.Prelude.{nothing, now, onEntry, owns, qed, refl, shr-slice-tells, slice-vals, split, split3, stop, subst, suffices, tables}
+use Rattle.table.proofs.Prelude.{tablesOf, u16, u64, uint-lawful, uint-tells, use1, vint, w8, ‵, ℕ}
 use package.contract.Lifetimes.{Lfts, Shares}
 use package.contract.Monad.{factI}
 use denote.Array.{Array}
 use denote.Plain.{uint-makes}
 use denote.Ref.{mut-tells, ptr-vals, shr-tells}
+use denote.RattleType.{flat}
 use denote.Signature.{typesAt}
-use denote.Laws.{Is}
-use denote.Triple.Clauses.{Lasts, lasts}
 use denote.Triple.Entry.{Args}
 use Rattle.table.proofs.Calls.{contract}
 use Rattle.table.proofs.Entries.{Entry}
 use Rattle.table.proofs.Locals.{enters, full, leaves, span}
-use Rattle.table.proofs.Steps.{Typed, elements, part, sets, slice-typed, value}
+use Rattle.table.proofs.Steps.{elements, part, sets, slice-typed, value}
 use Rattle.table.proofs.Values.{Value, enum, owns-value}
 use Rattle.paper.specs.Answers.{saysCounted}
 use Rattle.paper.specs.declared.Counted.{Counted}
 use Rattle.paper.specs.declared.Head.{Head}
+use Rattle.paper.specs.declared.Record.{Record}
 use Rattle.paper.proofs.Counted as C
 use Rattle.paper.proofs.Counted.Laws as C′
 use Rattle.sound.specs.Face.{Counts}
@@ -31,7 +30,7 @@ use Rattle.sound.proofs.count as count
 use Rattle.sound.proofs.count.Symbol as count-def
 use Rattle.sound.proofs.count.Symbol.{name as #count}
 use Rattle.sound.proofs.count.Met as count-thm
-use Rattle.c.specs.Told.{Tells, TellsCount, headOf}
+use Rattle.c.specs.Told.{Tells, headOf}
 use Rattle.c.proofs.Passing.{ends, passed-on, passes}
 use Rattle.c.proofs.Telling.{tells-count}
 use Rattle.c.proofs.head_of as head-of
@@ -74,8 +73,33 @@ module _ {M : Type 1} (𝓤 : URA M) (H : Heap 𝓤) (A : Atoms 𝓤) (W : Given
     abbrev a : Args tarn-count.signature κs
     a = y .0 .3
 
+    -- the parameters, and the tokens of those that are lent
+    abbrev numbers : RefT (List ℕ)
+    numbers = a .0
+
+    abbrev table : RefT (List Record)
+    table = a .1 .0
+
+    abbrev work : RefT (List ℕ)
+    work = a .1 .1 .0
+
+    abbrev rows : RefT ℕ
+    rows = a .1 .1 .1 .0
+
+    abbrev numbers-token : Fml
+    numbers-token = flft (κs .0) (qs .0)
+
+    abbrev table-token : Fml
+    table-token = flft (κs .1 .0) (qs .1 .0)
+
+    abbrev work-token : Fml
+    work-token = flft (κs .1 .1 .0) (qs .1 .1 .0)
+
+    abbrev rows-token : Fml
+    rows-token = flft (κs .1 .1 .1 .0) (qs .1 .1 .1 .0)
+
     abbrev to-head : HeadOf .Ghost
-    to-head = (((κs .0, tt), (qs .0, tt), tt, (a .0, tt), (ptr-vals (a .0), tt)), tt)
+    to-head = (((κs .0, tt), (qs .0, tt), tt, (numbers, tt), (ptr-vals numbers, tt)), tt)
 
     abbrev to-ask : Head → Ask .Ghost
     to-ask h = (
@@ -83,23 +107,25 @@ module _ {M : Type 1} (𝓤 : URA M) (H : Heap 𝓤) (A : Atoms 𝓤) (W : Given
         (κs .1 .0, (κs .1 .1 .0, tt)),
         (qs .1 .0, (qs .1 .1 .0, tt)),
         tt,
-        (h, (a .1 .0, (a .1 .1 .0, tt))),
-        (head .low h ∷ [], (slice-vals (a .1 .0), (slice-vals (a .1 .1 .0), tt))),
+        (h, (table, (work, tt))),
+        (head .low h ∷ [], (slice-vals table, (slice-vals work, tt))),
       ),
       tt,
     )
 
     abbrev to-tell : Counted → Tell .Ghost
-    to-tell r = (((κs .1 .1 .1 .0, tt), (qs .1 .1 .1 .0, tt), tt, (r, (a .1 .1 .1 .0, tt)), (answer .low r ∷ [], (ptr-vals (a .1 .1 .1 .0), tt))), tt)
+    to-tell r = (((κs .1 .1 .1 .0, tt), (qs .1 .1 .1 .0, tt), tt, (r, (rows, tt)), (answer .low r ∷ [], (ptr-vals rows, tt))), tt)
 
     module _ (𝓣 : Tables 𝓤 H) (known-head : Triple 𝓤 (𝓣 .C #head-of) HeadOf) (known-ask : Triple 𝓤 (𝓣 .C #count) Ask)
-        (known-tell : Triple 𝓤 (𝓣 .C #tell) Tell) (table-room : Room Entry (length (now (a .1 .0)))) (work-room : Room u64 (length (now (a .1 .1 .0)))) where
-      walk : ent 𝓤 (onEntry 𝓤 H A tarn-count.signature κs qs a (ptr-vals (a .0), (slice-vals (a .1 .0), (slice-vals (a .1 .1 .0), (ptr-vals (a .1 .1 .1 .0), tt)))))
-          (WpFn 𝓤 H (𝓣 .C) (𝓣 .Λ) code.function (vptr (a .0 .ptr .0) (a .0 .ptr .1) ∷ sliceVal (a .1 .0 .ptr) (length (now (a .1 .0)))
-          ∷ sliceVal (a .1 .1 .0 .ptr) (length (now (a .1 .1 .0))) ∷ vptr (a .1 .1 .1 .0 .ptr .0) (a .1 .1 .1 .0 .ptr .1) ∷ []) (Own .post y))
+        (known-tell : Triple 𝓤 (𝓣 .C #tell) Tell) (table-room : Room Entry (length (now table))) (work-room : Room u64 (length (now work))) where
+      abbrev machines : Vals tarn-count.signature κs
+      machines = (ptr-vals numbers, (slice-vals table, (slice-vals work, (ptr-vals rows, tt))))
+
+      walk : ent 𝓤 (onEntry 𝓤 H A tarn-count.signature κs qs a machines)
+          (WpFn 𝓤 H (𝓣 .C) (𝓣 .Λ) code.function (flat (typesAt (tarn-count.signature .params) κs) machines) (Own .post y))
       walk =
-          qed W ((‵ (flft (κs .0) (qs .0)) ⊛ ‵ (flft (κs .1 .0) (qs .1 .0)) ⊛ ‵ (flft (κs .1 .1 .0) (qs .1 .1 .0)) ⊛ ‵ (flft (κs .1 .1 .1 .0) (qs .1 .1 .1 .0)) ⊛ ‵ ftrue)
-          ∷ ‵ (owns (typesAt (tarn-count.signature .params) κs) a (ptr-vals (a .0), (slice-vals (a .1 .0), (slice-vals (a .1 .1 .0), (ptr-vals (a .1 .1 .1 .0), tt))))) ∷ []) ∵
+          qed W ((‵ numbers-token ⊛ ‵ table-token ⊛ ‵ work-token ⊛ ‵ rows-token ⊛ ‵ ftrue)
+          ∷ ‵ (owns (typesAt (tarn-count.signature .params) κs) a machines) ∷ []) ∵
           enters ! (𝓣 .C) (𝓣 .Λ) code.function _ (Own .post y)
           (λ bs. ((tt, tt), (slice-typed (table-room .0), (slice-typed (work-room .0), ((tt, tt), tt))))) (λ bs.
           -- [local j at 2 * j; the tokens; what the parameters own]
@@ -108,8 +134,8 @@ module _ {M : Type 1} (𝓤 : URA M) (H : Heap 𝓤) (A : Atoms 𝓤) (W : Given
           nothing ! $ move ! (7 ∷ 0 ∷ []) $ join ! $ nothing ! $ move ! (5 ∷ 0 ∷ []) $ fjoin ! $ move ! (1 ∷ 0 ∷ []) $
           passes ! (fmOf 𝓤 H (W .laws) 𝓣) head-of.ended (head-of.clauses 𝓤 H A mem run) known-head to-head (id⊢ 𝓤 _) (id⊢ 𝓤 _) (id⊢ 𝓤 _) (head .low) (head .tells)
           (and-then ! (value ! 9 refl) (no-more !))
-          (λ h us good. heard ! (h ≡ headOf (now (a .0))) (λ is.
-          use1 W (‵ (flft (κs .0) (qs .0)) ⊛ ‵ ftrue) (id⊢ 𝓤 _) $ split ! $ keep ! (0 ∷ 3 ∷ 4 ∷ 5 ∷ 6 ∷ 7 ∷ 8 ∷ span 9 20) $
+          (λ h us good. heard ! (h ≡ headOf (now numbers)) (λ is.
+          use1 W (‵ numbers-token ⊛ ‵ ftrue) (id⊢ 𝓤 _) $ split ! $ keep ! (0 ∷ 3 ∷ 4 ∷ 5 ∷ 6 ∷ 7 ∷ 8 ∷ span 9 20) $
           -- [the head's token; the work; the rows; the table; the tokens of the work, the rows, the table; local j at 7 + 2 * j]
           land ! (from ! (stop !)) (init ! 17 refl (head .typed 𝓤 H A W h good)) $
           sets ! 21 refl (elements ! 13 refl refl refl refl) (tt, tt) $
@@ -118,21 +144,21 @@ module _ {M : Type 1} (𝓤 : URA M) (H : Heap 𝓤) (A : Atoms 𝓤) (W : Given
           nothing ! $ move ! (3 ∷ 0 ∷ []) $ fjoin ! $ move ! (4 ∷ 0 ∷ []) $ fjoin ! $ owns-value head ! h good $ fjoin ! $ move ! (1 ∷ 0 ∷ []) $
           passes ! (fmOf 𝓤 H (W .laws) 𝓣) count.ended (count.clauses 𝓤 H A mem run) known-ask (to-ask h) (id⊢ 𝓤 _) (id⊢ 𝓤 _) (id⊢ 𝓤 _) (answer .low) (answer .tells)
           (and-then ! (value ! 14 refl) (and-then ! (value ! 8 refl) (and-then ! (value ! 20 refl) (no-more !))))
-          (λ r ws good-answer. heard ! (Counts h (now (a .1 .0)) (now (a .1 .1 .0)) r (ws .1 .1 .0)) (λ asked.
+          (λ r ws good-answer. heard ! (Counts h (now table) (now work) r (ws .1 .1 .0)) (λ asked.
           -- [its tokens; what it says; the head's token; the rows; their token; local j at 5 + 2 * j]
           land ! (from ! (stop !)) (init ! 17 refl (answer .typed 𝓤 H A W r good-answer)) $
           sets ! 23 refl (addr ! (from ! (hop ! (look ! 13 refl) (stop !)))) (tt, tt) $
           move ! (3 ∷ 4 ∷ []) $ owns-value answer ! r good-answer $ fjoin ! $ move ! (1 ∷ 0 ∷ []) $
           passes ! (fmOf 𝓤 H (W .laws) 𝓣) tell.ended (tell.clauses 𝓤 H A mem run) known-tell (to-tell r) (id⊢ 𝓤 _) (id⊢ 𝓤 _) (id⊢ 𝓤 _) (vint w8) (uint-tells w8)
           (and-then ! (value ! 16 refl) (and-then ! (value ! 22 refl) (no-more !)))
-          (λ n os good-number. heard ! (Tells (saysCounted r) (now (a .1 .1 .1 .0)) n (os .1 .0)) (λ told.
+          (λ n os good-number. heard ! (Tells (saysCounted r) (now rows) n (os .1 .0)) (λ told.
           land ! (from ! (stop !)) (init ! 5 refl (uint-lawful 𝓤 H A W w8 .typed n _ good-number .0)) $
           move ! (span 5 20) $ leaves ! (vint w8 n) (full _ ∷ full _ ∷ full _ ∷ full _ ∷ full _ ∷ full _ ∷ full _ ∷ full _ ∷ full _ ∷ []) $
           -- the tokens, then what is said of the last values
           suffices ! _ (ends 𝓤 H A W tarn-count.ended (tarn-count.clauses 𝓤 H A mem run) y (vint w8 n) n (uint-makes 𝓤 H A W w8) good-number
-          (tt, (tt, (ws .1 .1 .0, (os .1 .0, tt)))) (factI 𝓤 _ (emp 𝓤) (tells-count (now (a .0)) (now (a .1 .0)) (now (a .1 .1 .0)) (now (a .1 .1 .1 .0)) r n
-          (ws .1 .1 .0) (os .1 .0) (subst (λ (x : Head). Counts x (now (a .1 .0)) (now (a .1 .1 .0)) r (ws .1 .1 .0)) is asked) told))) $
-          move ! (2 ∷ []) $ use1 W (‵ (flft (κs .1 .0) (qs .1 .0)) ⊛ ‵ (flft (κs .1 .1 .0) (qs .1 .1 .0)) ⊛ ‵ ftrue) (id⊢ 𝓤 _) $ split3 ! $
+          (tt, (tt, (ws .1 .1 .0, (os .1 .0, tt)))) (factI 𝓤 _ (emp 𝓤) (tells-count (now numbers) (now table) (now work) (now rows) r n
+          (ws .1 .1 .0) (os .1 .0) (subst (λ (x : Head). Counts x (now table) (now work) r (ws .1 .1 .0)) is asked) told))) $
+          move ! (2 ∷ []) $ use1 W (‵ table-token ⊛ ‵ work-token ⊛ ‵ ftrue) (id⊢ 𝓤 _) $ split3 ! $
           move ! (1 ∷ 3 ∷ []) $ join ! $ move ! (1 ∷ 0 ∷ []) $ join ! $ move ! (4 ∷ 0 ∷ []) $ join ! $ frame ! $
           move ! (2 ∷ []) $ fsplit ! $ drop ! $ fsplit ! $ drop ! $ fsplit ! $ move ! (3 ∷ []) $ fsplit ! $ drop ! $ move ! (1 ∷ 0 ∷ []) $ fjoin ! $
           nothing ! $ fjoin ! $ nothing ! $ fjoin ! $ keep ! (0 ∷ []) $ done !)))))))

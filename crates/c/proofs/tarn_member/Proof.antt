@@ -1,11 +1,10 @@
 -- `c::tarn_member` meets its contract: a walk of its MIR, by hand. It is a straight line, and each parameter is passed on for good.
 -- Assumes nothing.
-use Rattle.table.proofs.Prelude.{⋆, suffices, frame, done, subst}
-use Rattle.table.proofs.Prelude.{ !, Atoms, Contract, Fun, Given, Heap, List, Memory, Room, Routine, SProp, Tables, Triple, URA, Val, WpFn, [], _$_, _⊛_, _∵_}
-use Rattle.table.proofs.Prelude.{_∷_, _≡_, agg, and-then, by, cited, drop, emp, ent, fjoin, flft, fmOf, from, fsplit, ftrue, givenOf, group, heard, id⊢, init, join}
-use Rattle.table.proofs.Prelude.{keep, land, length, look, move, mut-slice-tells, named, no-more, nothing, now, onEntry, owns, qed, refl, hop, addr}
-use Rattle.table.proofs.Prelude.{shr-slice-tells, slice-vals, sliceVal, split, split3, stop, tables, tablesOf, u16, u64, u8, uint-lawful, uint-tells, use1, vint, w8, ‵, ℕ}
-use mir.Val.{vptr}
+use Rattle.table.proofs.Prelude.{ !, Atoms, Contract, Fml, Fun, Given, Heap, List, Memory, RefT, Room, Routine, SProp, Tables, Triple, URA, Vals, WpFn}
+use Rattle.table.proofs.Prelude.{[], _$_, _∵_, _∷_, _≡_, _⊛_, addr, agg, and-then, cited, done, drop, emp, ent, fjoin, flft, fmOf, frame, from}
+use Rattle.table.proofs.Prelude.{fsplit, ftrue, givenOf, heard, hop, id⊢, init, join, keep, land, length, look, move, mut-slice-tells, named, no-more}
+use Rattle.table.proofs.Prelude.{nothing, now, onEntry, owns, qed, refl, shr-slice-tells, slice-vals, split, split3, stop, subst, suffices, tables}
+use Rattle.table.proofs.Prelude.{tablesOf, u16, u64, u8, uint-lawful, uint-tells, use1, vint, w8, ‵, ℕ}
 use package.contract.Lifetimes.{Lfts, Shares}
 use package.contract.Monad.{factI}
 use denote.Array.{Array}
@@ -13,17 +12,16 @@ use denote.Plain.{uint-makes}
 use denote.Ref.{mut-tells, ptr-vals, shr-tells}
 use denote.RattleType.{flat}
 use denote.Signature.{typesAt}
-use denote.Laws.{Is}
-use denote.Triple.Clauses.{Lasts, lasts}
 use denote.Triple.Entry.{Args}
 use Rattle.table.proofs.Calls.{contract}
 use Rattle.table.proofs.Entries.{Entry}
 use Rattle.table.proofs.Locals.{enters, full, leaves, span}
-use Rattle.table.proofs.Steps.{Typed, elements, part, sets, slice-typed, value}
+use Rattle.table.proofs.Steps.{elements, part, sets, slice-typed, value}
 use Rattle.table.proofs.Values.{Value, enum, owns-value}
 use Rattle.paper.specs.Answers.{saysMember, told}
 use Rattle.paper.specs.declared.Member.{Member}
 use Rattle.paper.specs.declared.Head.{Head}
+use Rattle.paper.specs.declared.Record.{Record}
 use Rattle.paper.proofs.Member as C
 use Rattle.paper.proofs.Member.Laws as C′
 use Rattle.member.specs.Face.{Members}
@@ -32,7 +30,7 @@ use Rattle.member.proofs.member as member
 use Rattle.member.proofs.member.Symbol as member-def
 use Rattle.member.proofs.member.Symbol.{name as #member}
 use Rattle.member.proofs.member.Met as member-thm
-use Rattle.c.specs.Told.{Tells, TellsMember, headOf, listedNumber}
+use Rattle.c.specs.Told.{Tells, headOf, listedNumber}
 use Rattle.c.proofs.Passing.{ends, passed-on, passes}
 use Rattle.c.proofs.Telling.{tells-member}
 use Rattle.c.proofs.head_of as head-of
@@ -75,8 +73,39 @@ module _ {M : Type 1} (𝓤 : URA M) (H : Heap 𝓤) (A : Atoms 𝓤) (W : Given
     abbrev a : Args tarn-member.signature κs
     a = y .0 .3
 
+    -- the parameters, and the tokens of those that are lent
+    abbrev numbers : RefT (List ℕ)
+    numbers = a .0
+
+    abbrev table : RefT (List Record)
+    table = a .1 .0
+
+    abbrev work : RefT (List ℕ)
+    work = a .1 .1 .0
+
+    abbrev row : RefT (List ℕ)
+    row = a .1 .1 .1 .0
+
+    abbrev listed : RefT ℕ
+    listed = a .1 .1 .1 .1 .0
+
+    abbrev numbers-token : Fml
+    numbers-token = flft (κs .0) (qs .0)
+
+    abbrev table-token : Fml
+    table-token = flft (κs .1 .0) (qs .1 .0)
+
+    abbrev work-token : Fml
+    work-token = flft (κs .1 .1 .0) (qs .1 .1 .0)
+
+    abbrev row-token : Fml
+    row-token = flft (κs .1 .1 .1 .0) (qs .1 .1 .1 .0)
+
+    abbrev listed-token : Fml
+    listed-token = flft (κs .1 .1 .1 .1 .0) (qs .1 .1 .1 .1 .0)
+
     abbrev to-head : HeadOf .Ghost
-    to-head = (((κs .0, tt), (qs .0, tt), tt, (a .0, tt), (ptr-vals (a .0), tt)), tt)
+    to-head = (((κs .0, tt), (qs .0, tt), tt, (numbers, tt), (ptr-vals numbers, tt)), tt)
 
     abbrev to-ask : Head → Ask .Ghost
     to-ask h = (
@@ -84,8 +113,8 @@ module _ {M : Type 1} (𝓤 : URA M) (H : Heap 𝓤) (A : Atoms 𝓤) (W : Given
         (κs .1 .0, (κs .1 .1 .0, (κs .1 .1 .1 .0, tt))),
         (qs .1 .0, (qs .1 .1 .0, (qs .1 .1 .1 .0, tt))),
         tt,
-        (h, (a .1 .0, (a .1 .1 .0, (a .1 .1 .1 .0, tt)))),
-        (head .low h ∷ [], (slice-vals (a .1 .0), (slice-vals (a .1 .1 .0), (slice-vals (a .1 .1 .1 .0), tt)))),
+        (h, (table, (work, (row, tt)))),
+        (head .low h ∷ [], (slice-vals table, (slice-vals work, (slice-vals row, tt)))),
       ),
       tt,
     )
@@ -96,45 +125,22 @@ module _ {M : Type 1} (𝓤 : URA M) (H : Heap 𝓤) (A : Atoms 𝓤) (W : Given
         (κs .1 .1 .1 .1 .0, tt),
         (qs .1 .1 .1 .1 .0, tt),
         tt,
-        (r, (a .1 .1 .1 .1 .0, tt)),
-        (answer .low r ∷ [], (ptr-vals (a .1 .1 .1 .1 .0), tt)),
+        (r, (listed, tt)),
+        (answer .low r ∷ [], (ptr-vals listed, tt)),
       ),
       tt,
     )
 
     module _ (𝓣 : Tables 𝓤 H) (known-head : Triple 𝓤 (𝓣 .C #head-of) HeadOf) (known-ask : Triple 𝓤 (𝓣 .C #member) Ask)
-        (known-tell : Triple 𝓤 (𝓣 .C #tell) Tell) (table-room : Room Entry (length (now (a .1 .0)))) (work-room : Room u64 (length (now (a .1 .1 .0))))
-        (row-room : Room u16 (length (now (a .1 .1 .1 .0)))) where
-      exits : (n : ℕ) → Is u8 n (vint w8 n ∷ []) → (r : Member) (h : Head) (ws : Lasts member.ended (to-ask h .0 .0) (to-ask h .0 .3))
-          (os : Lasts tell.ended (to-tell r .0 .0) (to-tell r .0 .3))
-          → TellsMember (now (a .0)) (now (a .1 .0)) (now (a .1 .1 .0)) (now (a .1 .1 .1 .0)) (now (a .1 .1 .1 .1 .0)) n (ws .1 .1 .0) (os .1 .0)
-          → ent 𝓤 (⋆ 𝓤 H A ((‵ (flft (κs .1 .1 .1 .1 .0) (qs .1 .1 .1 .1 .0)) ⊛ ‵ ftrue) ∷ ‵ (lasts tell.ended (to-tell r .0 .0) (to-tell r .0 .3) os)
-          ∷ (‵ (flft (κs .1 .0) (qs .1 .0)) ⊛ ‵ (flft (κs .1 .1 .0) (qs .1 .1 .0)) ⊛ ‵ (flft (κs .1 .1 .1 .0) (qs .1 .1 .1 .0)) ⊛ ‵ ftrue)
-          ∷ ‵ (lasts member.ended (to-ask h .0 .0) (to-ask h .0 .3) ws) ∷ ‵ (flft (κs .0) (qs .0)) ∷ [])) (Own .post y (vint w8 n))
-      exits n good r h ws os e =
-          qed W ((‵ (flft (κs .1 .1 .1 .1 .0) (qs .1 .1 .1 .1 .0)) ⊛ ‵ ftrue) ∷ ‵ (lasts tell.ended (to-tell r .0 .0) (to-tell r .0 .3) os)
-          ∷ (‵ (flft (κs .1 .0) (qs .1 .0)) ⊛ ‵ (flft (κs .1 .1 .0) (qs .1 .1 .0)) ⊛ ‵ (flft (κs .1 .1 .1 .0) (qs .1 .1 .1 .0)) ⊛ ‵ ftrue)
-          ∷ ‵ (lasts member.ended (to-ask h .0 .0) (to-ask h .0 .3) ws) ∷ ‵ (flft (κs .0) (qs .0)) ∷ []) ∵
-          suffices ! _ (ends 𝓤 H A W tarn-member.ended (tarn-member.clauses 𝓤 H A mem run) y (vint w8 n) n (uint-makes 𝓤 H A W w8) good
-          (tt, (tt, (ws .1 .1 .0, (tt, (os .1 .0, tt))))) (factI 𝓤 _ (emp 𝓤) e)) $
-          -- the tokens, then what is said of the last values
-          move ! (2 ∷ []) $ split3 ! $ move ! (2 ∷ []) $ split ! $ move ! (0 ∷ 4 ∷ []) $ join ! $ move ! (3 ∷ 0 ∷ []) $ join ! $
-          move ! (2 ∷ 0 ∷ []) $ join ! $ move ! (4 ∷ 0 ∷ []) $ join ! $ frame ! $
-          -- [true; what `tell` says; what `ask` says]
-          move ! (2 ∷ []) $ fsplit ! $ drop ! $ fsplit ! $ drop ! $ fsplit ! $ move ! (3 ∷ []) $ fsplit ! $ drop ! $
-          nothing ! $ fjoin ! $ move ! (1 ∷ 0 ∷ []) $ fjoin ! $ nothing ! $ fjoin ! $ nothing ! $ fjoin ! $ keep ! (0 ∷ []) $ done !
-
-      abbrev Machines : Type 0
-      Machines = List Val × (List Val × (List Val × (List Val × (List Val × Unit {0}))))
-
-      abbrev machines : Machines
-      machines = (ptr-vals (a .0), (slice-vals (a .1 .0), (slice-vals (a .1 .1 .0), (slice-vals (a .1 .1 .1 .0), (ptr-vals (a .1 .1 .1 .1 .0), tt)))))
+        (known-tell : Triple 𝓤 (𝓣 .C #tell) Tell) (table-room : Room Entry (length (now table))) (work-room : Room u64 (length (now work)))
+        (row-room : Room u16 (length (now row))) where
+      abbrev machines : Vals tarn-member.signature κs
+      machines = (ptr-vals numbers, (slice-vals table, (slice-vals work, (slice-vals row, (ptr-vals listed, tt)))))
 
       walk : ent 𝓤 (onEntry 𝓤 H A tarn-member.signature κs qs a machines)
           (WpFn 𝓤 H (𝓣 .C) (𝓣 .Λ) code.function (flat (typesAt (tarn-member.signature .params) κs) machines) (Own .post y))
       walk =
-          qed W ((‵ (flft (κs .0) (qs .0)) ⊛ ‵ (flft (κs .1 .0) (qs .1 .0)) ⊛ ‵ (flft (κs .1 .1 .0) (qs .1 .1 .0)) ⊛ ‵ (flft (κs .1 .1 .1 .0) (qs .1 .1 .1 .0))
-          ⊛ ‵ (flft (κs .1 .1 .1 .1 .0) (qs .1 .1 .1 .1 .0)) ⊛ ‵ ftrue) ∷ ‵ (owns (typesAt (tarn-member.signature .params) κs) a machines) ∷ []) ∵
+          qed W ((‵ numbers-token ⊛ ‵ table-token ⊛ ‵ work-token ⊛ ‵ row-token ⊛ ‵ listed-token ⊛ ‵ ftrue) ∷ ‵ (owns (typesAt (tarn-member.signature .params) κs) a machines) ∷ []) ∵
           enters ! (𝓣 .C) (𝓣 .Λ) code.function _ (Own .post y)
           (λ bs. ((tt, tt), (slice-typed (table-room .0), (slice-typed (work-room .0), (slice-typed (row-room .0), ((tt, tt), tt)))))) (λ bs.
           -- [local j at 2 * j; the tokens; what the parameters own]
@@ -144,8 +150,8 @@ module _ {M : Type 1} (𝓤 : URA M) (H : Heap 𝓤) (A : Atoms 𝓤) (W : Given
           nothing ! $ move ! (9 ∷ 0 ∷ []) $ join ! $ nothing ! $ move ! (6 ∷ 0 ∷ []) $ fjoin ! $ move ! (1 ∷ 0 ∷ []) $
           passes ! (fmOf 𝓤 H (W .laws) 𝓣) head-of.ended (head-of.clauses 𝓤 H A mem run) known-head to-head (id⊢ 𝓤 _) (id⊢ 𝓤 _) (id⊢ 𝓤 _) (head .low) (head .tells)
           (and-then ! (value ! 11 refl) (no-more !))
-          (λ h us good. heard ! (h ≡ headOf (now (a .0))) (λ is.
-          use1 W (‵ (flft (κs .0) (qs .0)) ⊛ ‵ ftrue) (id⊢ 𝓤 _) $ split ! $ keep ! (0 ∷ span 3 30) $
+          (λ h us good. heard ! (h ≡ headOf (now numbers)) (λ is.
+          use1 W (‵ numbers-token ⊛ ‵ ftrue) (id⊢ 𝓤 _) $ split ! $ keep ! (0 ∷ span 3 30) $
           -- [the head's token; the row; the listed; the work; the table; the tokens of the work, the row, the listed, the table; local j at 9 + 2 * j]
           land ! (from ! (stop !)) (init ! 21 refl (head .typed 𝓤 H A W h good)) $
           sets ! 25 refl (elements ! 15 refl refl refl refl) (tt, tt) $
@@ -154,19 +160,26 @@ module _ {M : Type 1} (𝓤 : URA M) (H : Heap 𝓤) (A : Atoms 𝓤) (W : Given
           nothing ! $ move ! (3 ∷ 0 ∷ []) $ fjoin ! $ move ! (4 ∷ 0 ∷ []) $ fjoin ! $ move ! (4 ∷ 0 ∷ []) $ fjoin ! $ owns-value head ! h good $ fjoin ! $ move ! (1 ∷ 0 ∷ []) $
           passes ! (fmOf 𝓤 H (W .laws) 𝓣) member.ended (member.clauses 𝓤 H A mem run) known-ask (to-ask h) (id⊢ 𝓤 _) (id⊢ 𝓤 _) (id⊢ 𝓤 _) (answer .low) (answer .tells)
           (and-then ! (value ! 16 refl) (and-then ! (value ! 8 refl) (and-then ! (value ! 22 refl) (and-then ! (value ! 12 refl) (no-more !)))))
-          (λ r ws good-answer. heard ! (Members h (now (a .1 .0)) (now (a .1 .1 .0)) (now (a .1 .1 .1 .0)) r (ws .1 .1 .0)) (λ asked.
+          (λ r ws good-answer. heard ! (Members h (now table) (now work) (now row) r (ws .1 .1 .0)) (λ asked.
           -- [its tokens; what it says; the head's token; the listed; its token; local j at 5 + 2 * j]
           land ! (from ! (stop !)) (init ! 19 refl (answer .typed 𝓤 H A W r good-answer)) $
           sets ! 25 refl (addr ! (from ! (hop ! (look ! 15 refl) (stop !)))) (tt, tt) $
           move ! (3 ∷ 4 ∷ []) $ owns-value answer ! r good-answer $ fjoin ! $ move ! (1 ∷ 0 ∷ []) $
           passes ! (fmOf 𝓤 H (W .laws) 𝓣) tell.ended (tell.clauses 𝓤 H A mem run) known-tell (to-tell r) (id⊢ 𝓤 _) (id⊢ 𝓤 _) (id⊢ 𝓤 _) (vint w8) (uint-tells w8)
           (and-then ! (value ! 18 refl) (and-then ! (value ! 24 refl) (no-more !)))
-          (λ n os good-number. heard ! (Tells (told listedNumber (saysMember r)) (now (a .1 .1 .1 .1 .0)) n (os .1 .0)) (λ tells.
+          (λ n os good-number. heard ! (Tells (told listedNumber (saysMember r)) (now listed) n (os .1 .0)) (λ tells.
           land ! (from ! (stop !)) (init ! 5 refl (uint-lawful 𝓤 H A W w8 .typed n _ good-number .0)) $
           move ! (span 5 22) $ leaves ! (vint w8 n) (full _ ∷ full _ ∷ full _ ∷ full _ ∷ full _ ∷ full _ ∷ full _ ∷ full _ ∷ full _ ∷ full _ ∷ []) $
-          by ! (exits n good-number r h ws os
-          (tells-member (now (a .0)) (now (a .1 .0)) (now (a .1 .1 .0)) (now (a .1 .1 .1 .0)) (now (a .1 .1 .1 .1 .0)) r n (ws .1 .1 .0) (os .1 .0)
-          (subst (λ (x : Head). Members x (now (a .1 .0)) (now (a .1 .1 .0)) (now (a .1 .1 .1 .0)) r (ws .1 .1 .0)) is asked) tells)))))))))
+          -- the tokens, then what is said of the last values
+          suffices ! _ (ends 𝓤 H A W tarn-member.ended (tarn-member.clauses 𝓤 H A mem run) y (vint w8 n) n (uint-makes 𝓤 H A W w8) good-number
+          (tt, (tt, (ws .1 .1 .0, (tt, (os .1 .0, tt))))) (factI 𝓤 _ (emp 𝓤)
+          (tells-member (now numbers) (now table) (now work) (now row) (now listed) r n (ws .1 .1 .0) (os .1 .0)
+          (subst (λ (x : Head). Members x (now table) (now work) (now row) r (ws .1 .1 .0)) is asked) tells))) $
+          move ! (2 ∷ []) $ use1 W (‵ table-token ⊛ ‵ work-token ⊛ ‵ row-token ⊛ ‵ ftrue) (id⊢ 𝓤 _) $
+          split3 ! $ move ! (2 ∷ []) $ split ! $ move ! (0 ∷ 4 ∷ []) $ join ! $ move ! (3 ∷ 0 ∷ []) $ join ! $
+          move ! (2 ∷ 0 ∷ []) $ join ! $ move ! (4 ∷ 0 ∷ []) $ join ! $ frame ! $
+          move ! (2 ∷ []) $ fsplit ! $ drop ! $ fsplit ! $ drop ! $ fsplit ! $ move ! (3 ∷ []) $ fsplit ! $ drop ! $
+          nothing ! $ fjoin ! $ move ! (1 ∷ 0 ∷ []) $ fjoin ! $ nothing ! $ fjoin ! $ nothing ! $ fjoin ! $ keep ! (0 ∷ []) $ done !)))))))
 
 pub tarn-member-spec : {M : Type 1} → stated.statement M
 unfolding code.routine tablesOf
