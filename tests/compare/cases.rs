@@ -1,9 +1,10 @@
-//! The cases: a stream with the buffers lent to its build. Case `number` of a seed is always the same.
+//! The cases: a stream with the buffers lent to its build.
 
 use crate::call::{Buffer, Call, Function};
 use crate::damage::{any_bytes, byte_changed, byte_dropped, byte_put_in, cut, record_moved};
 use crate::garbage;
 use crate::limits;
+use crate::numbered::{Kinds, Numbered};
 use crate::random::Random;
 use crate::streams::{any_places_seen, any_valid, any_with_q, dense, grown, Stream};
 use records::set::{Record, MOST_RECORDS};
@@ -47,10 +48,8 @@ pub enum Room {
 /// In random cases no longer table is lent; a build that makes more is refused 6.
 pub const LONGEST_TABLE: usize = 4_000;
 
-type Make = fn(&mut Random) -> Case;
-
 /// Each kind of random case, with how many there are.
-const RANDOM: &[(usize, Make)] = &[
+const RANDOM: &Kinds<Case> = &[
     (5_000, |r| enough("rules grown along rows", r, grown)),
     (3_000, |r| enough("most left sides have a rule", r, dense)),
     (400, |r| enough("states are the places seen", r, any_places_seen)),
@@ -68,40 +67,12 @@ const RANDOM: &[(usize, Make)] = &[
     (200, |r| limits::many_rules("limit: 1,024 rules and more, any", r)),
 ];
 
-/// All cases of a seed: the random ones, then the limits.
-pub struct Cases {
-    seed: u64,
-    limits: Vec<limits::Limit>,
-}
+pub type Cases = Numbered<Case, limits::Limit>;
 
-impl Cases {
-    pub fn of(seed: u64) -> Cases {
-        Cases { seed, limits: limits::all() }
-    }
-
-    fn random() -> usize {
-        RANDOM.iter().map(|(count, _)| count).sum()
-    }
-
-    pub fn len(&self) -> usize {
-        Cases::random() + self.limits.len()
-    }
-
-    pub fn case(&self, number: usize) -> Case {
-        let mut random = Random::of(self.seed, number as u64);
-        if number >= Cases::random() {
-            let limit = &self.limits[number - Cases::random()];
-            return lend(&mut random, limit.kind, limit.input.clone(), limit.room, MOST_RECORDS);
-        }
-        let mut before = 0;
-        for (count, make) in RANDOM {
-            if number < before + count {
-                return make(&mut random);
-            }
-            before += count;
-        }
-        unreachable!("every number below the random cases has a kind")
-    }
+pub fn all(seed: u64) -> Cases {
+    Numbered::of(seed, RANDOM, limits::all(), |random, limit| {
+        lend(random, limit.kind, limit.input.clone(), limit.room, MOST_RECORDS)
+    })
 }
 
 fn enough(kind: &'static str, random: &mut Random, make: fn(&mut Random) -> Stream) -> Case {

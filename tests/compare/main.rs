@@ -18,6 +18,7 @@ mod fixings;
 mod garbage;
 mod limits;
 mod making;
+mod numbered;
 mod questions;
 mod random;
 mod set_damage;
@@ -71,12 +72,12 @@ fn folder() -> PathBuf {
 
 fn main() -> ExitCode {
     let arguments = arguments();
-    let (cases, groups) = (Cases::of(arguments.seed), Groups::of(arguments.seed));
+    let (cases, groups) = (cases::all(arguments.seed), questions::all(arguments.seed));
     if let Some(number) = arguments.stream {
-        show(&cases.case(number));
+        show(&cases.make(number));
     }
     if let Some(number) = arguments.group {
-        show_group(&groups.group(number));
+        show_group(&groups.make(number));
     }
     if arguments.stream.or(arguments.group).is_some() {
         return ExitCode::SUCCESS;
@@ -98,10 +99,10 @@ fn main() -> ExitCode {
 fn check_all(cases: &Cases, groups: &Groups, driver: Option<&Driver>, tally: &mut Tally) {
     let mut trials = Trials::with(driver);
     for number in 0..cases.len() {
-        trials.add(Box::new(StreamTrial { case: cases.case(number), number }), tally);
+        trials.add(Box::new(StreamTrial { case: cases.make(number), number }), tally);
     }
     for group in 0..groups.len() {
-        let Group { kind, questions, verdict } = groups.group(group);
+        let Group { kind, questions, verdict } = groups.make(group);
         tally.own("sets as they were made", &format!("{kind}, group {group}"), verdict);
         for (number, asked) in questions.into_iter().enumerate() {
             trials.add(Box::new(QuestionTrial { kind, group, number, asked }), tally);

@@ -1,7 +1,8 @@
-//! The random questions, in groups on one set each. Group `number` of a seed is always the same.
+//! The random questions, in groups on one set each.
 
 use crate::asking::{Asking, Question};
 use crate::fixings::all_orders;
+use crate::numbered::{Kinds, Numbered};
 use crate::random::Random;
 use crate::set_damage as damage;
 use crate::set_limits;
@@ -24,11 +25,10 @@ pub struct Group {
     pub verdict: Verdict,
 }
 
-type Make = fn(&mut Random) -> Group;
 type Damage = fn(&mut Random, &mut WholeSet);
 
 /// Each kind of random group, with how many there are.
-const RANDOM: &[(usize, Make)] = &[
+const RANDOM: &Kinds<Group> = &[
     (900, |r| on_built("built sets", r, every_question)),
     (150, |r| on_built("built sets, all rows", r, all_rows)),
     (200, |r| on_built("built sets, fixed in all orders", r, all_orders)),
@@ -46,41 +46,15 @@ const RANDOM: &[(usize, Make)] = &[
     (300, |r| damaged("large counts", r, damage::large_counts)),
 ];
 
-/// All groups of a seed: the random ones, then the limits.
-pub struct Groups {
-    seed: u64,
-    limits: Vec<set_limits::Limit>,
-}
+pub type Groups = Numbered<Group, set_limits::Limit>;
 
-impl Groups {
-    pub fn of(seed: u64) -> Groups {
-        Groups { seed, limits: set_limits::all() }
-    }
-
-    fn random() -> usize {
-        RANDOM.iter().map(|(count, _)| count).sum()
-    }
-
-    pub fn len(&self) -> usize {
-        Groups::random() + self.limits.len()
-    }
-
-    pub fn group(&self, number: usize) -> Group {
-        // not the numbers that make the streams
-        let mut random = Random::of(!self.seed, number as u64);
-        if number >= Groups::random() {
-            let limit = &self.limits[number - Groups::random()];
-            return Group { kind: limit.kind, questions: (limit.ask)(&mut random, &limit.set), verdict: limit.verdict() };
-        }
-        let mut before = 0;
-        for (count, make) in RANDOM {
-            if number < before + count {
-                return make(&mut random);
-            }
-            before += count;
-        }
-        unreachable!("every number below the random groups has a kind")
-    }
+/// From other numbers than those that make the streams.
+pub fn all(seed: u64) -> Groups {
+    Numbered::of(!seed, RANDOM, set_limits::all(), |random, limit| Group {
+        kind: limit.kind,
+        questions: (limit.ask)(random, &limit.set),
+        verdict: limit.verdict(),
+    })
 }
 
 fn on_built(kind: &'static str, random: &mut Random, ask: fn(&mut Random, &WholeSet, &Rows) -> Vec<Asked>) -> Group {

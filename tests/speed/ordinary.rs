@@ -227,8 +227,8 @@ pub fn row(built: &Built, number: u64) -> Vec<u16> {
     row
 }
 
-/// Products nest at most three deep.
-fn descend(records: &[Record], counts: &[u64], mut at: u16, mut number: u64, row: &mut [u16]) {
+/// The row of a record by its number. Products nest at most three deep.
+pub fn descend(records: &[Record], counts: &[u64], mut at: u16, mut number: u64, row: &mut [u16]) {
     while records[at as usize].kind == UNION {
         let record = records[at as usize];
         let lefts = counts[record.left as usize];

@@ -1,7 +1,7 @@
 //! The benchmark's plain passes: ordinary Rust over the same record array that makes the library's checks in its order, answers into
 //! lent buffers and clears the work. A refusal is its number.
 
-use crate::ordinary::{PRODUCT, SINGLE, UNION};
+use crate::ordinary::{descend, PRODUCT, SINGLE, UNION};
 use tarnsatchel::{Head, Record, Set, BLANK};
 
 const MOST_ROWS: u64 = 1 << 48;
@@ -97,31 +97,9 @@ pub fn row(head: &Head, table: &[Record], work: &mut [u64], number: u64, row: &m
     }
     row[..head.arity as usize].fill(BLANK);
     if let Set::Record(root) = head.set {
-        descend(table, work, root, number, row);
+        descend(table, work, root, number, &mut row[..head.arity as usize]);
     }
     cleared(head, work, Ok(()))
-}
-
-/// Products nest at most three deep.
-fn descend(table: &[Record], counts: &[u64], mut at: u16, mut number: u64, row: &mut [u16]) {
-    while table[at as usize].kind == UNION {
-        let record = table[at as usize];
-        let lefts = counts[record.left as usize];
-        if number < lefts {
-            at = record.left;
-        } else {
-            number -= lefts;
-            at = record.right;
-        }
-    }
-    let record = table[at as usize];
-    if record.kind == PRODUCT {
-        let rights = counts[record.right as usize];
-        descend(table, counts, record.left, number / rights, row);
-        descend(table, counts, record.right, number % rights, row);
-        return;
-    }
-    (0..4).filter(|place| record.flag >> place & 1 == 1).for_each(|place| row[place] = record.node);
 }
 
 #[inline(never)]
