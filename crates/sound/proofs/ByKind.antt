@@ -63,7 +63,7 @@ few-cond : (c : Bool) (m n : ℕ) → m ≤ mostRows → n ≤ mostRows → cond
 few-cond true m n h g = h
 few-cond false m n h g = g
 
-few-if : (n : ℕ) → ifFew n ≤ mostRows
+pub few-if : (n : ℕ) → ifFew n ≤ mostRows
 few-if n = go (leb n mostRows) refl
   where
     go : (c : Bool) → leb n mostRows ≡ c → cond c n 0 ≤ mostRows

@@ -1,4 +1,4 @@
--- The three ways out of a step, as `Steps` says them: the record does not fit, it lists no row, or its weight is written.
+-- The three ways out of a step, as `Steps` says them: the record does not fit, it has no weight, or its weight is written.
 use mathlib.Core.Bool.{Bool, cond, false, true}
 use mathlib.Core.List.{List}
 use mathlib.Core.Path.{_∙_, _≡_, ap, refl, sym}
@@ -6,7 +6,8 @@ use Prim.Native.Nat.{_*_, _+_, ℕ}
 use native.Mathlib.Omega.{arith}
 use lib.ListN.{set}
 use Rattle.paper.specs.declared.Record.{Record}
-use Rattle.sound.specs.Steps.{State, Steps, failed, further, recordFits, rowsBy, rowsFound}
+use Rattle.sound.specs.Steps.{State, Steps, failed, further, recordFits, rowsBy, rowsFound, weightFor}
+use Rattle.sound.proofs.WeightParts.{no-weight, some-weight}
 
 module _ (t : State) (r : Record) (work : List ℕ) where
   -- a record without rows ends the pass
@@ -20,12 +21,15 @@ module _ (t : State) (r : Record) (work : List ℕ) where
     found : rowsFound t r work ≡ rowsBy r (t .at) work
     found = ap (λ (c : Bool). cond c (rowsBy r (t .at) work) 0) fits
 
-    pub lists-none : rowsBy r (t .at) work ≡ 0 → Steps t r work (failed t) work
-    lists-none none = ends (found ∙ none)
+    pub weighs-none : weightFor (r .flag) (rowsBy r (t .at) work) ≡ 0 → Steps t r work (failed t) work
+    weighs-none none = ends (found ∙ no-weight (r .flag) (rowsBy r (t .at) work) none)
 
-    pub lists-some : (rows : ℕ) → rows ≡ rowsBy r (t .at) work → (rows ≡ 0 → ⊥)
-        → Steps t r work (further t) (set work (t .at) (16 * rows + r .flag))
-    lists-some rows e some = record {
-      fails = λ none. absurd (some (e ∙ sym found ∙ none));
-      passes = λ _. (refl, ap (λ (n : ℕ). set work (t .at) (16 * n + r .flag)) (e ∙ sym found));
+    pub weighs-some : (weight : ℕ) → weight ≡ weightFor (r .flag) (rowsBy r (t .at) work) → (weight ≡ 0 → ⊥)
+        → Steps t r work (further t) (set work (t .at) weight)
+    weighs-some weight e some = record {
+      fails = λ none. absurd (some (e ∙ ap (weightFor (r .flag)) (sym found ∙ none)));
+      passes =
+          λ listed.
+          let rows : rowsBy r (t .at) work ≡ 0 → ⊥ = λ none. omega (arith, none, found, listed) in
+          (refl, ap (set work (t .at)) (e ∙ some-weight (r .flag) _ rows ∙ ap (λ (n : ℕ). 16 * n + r .flag) (sym found)));
     }

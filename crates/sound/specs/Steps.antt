@@ -1,5 +1,5 @@
--- The test of one record, over the weights of those before it. First the rows that each kind lists, 0 where the record is not sound;
--- then what the step asks for and what it leaves.
+-- The test of one record, over the weights of those before it. First the rows that each kind lists, 0 where the record is not sound,
+-- and the weight made of them; then what the step asks for and what it leaves.
 use mathlib.Core.Bool.{Bool, true, false, cond, _&&_}
 use mathlib.Core.List.{List, [], _∷_}
 use mathlib.Core.Path.{_≡_}
@@ -49,11 +49,16 @@ recordFits r nodes arity = every (ltb (r .node) nodes ∷ ltb noPlace (r .flag) 
 abbrev pub rowsFound : State → Record → List ℕ → ℕ
 rowsFound t r weights = cond (recordFits r (t .nodes) (t .arity)) (rowsBy r (t .at) weights) 0
 
+-- the weight of a record with this flag and so many rows, 0 where there is none
+abbrev pub weightFor : ℕ → ℕ → ℕ
+weightFor flag rows = cond (eqb rows 0) 0 (16 * rows + flag)
+
 -- ---- the step
--- there are weights before `at`, each of some row
+-- there are weights before `at`, each of some row and of no more than a record may list
 pub record Weighable (at : ℕ) (weights : List ℕ) : Type 0 where
   pub there : at ≤ length weights
   pub some : (k : ℕ) → k < at → 0 < rowsIn (getD weights k 0)
+  pub few : (k : ℕ) → k < at → rowsIn (getD weights k 0) ≤ mostRows
 
 -- stopped, since a record is not sound
 abbrev pub failed : State → State

@@ -1,12 +1,12 @@
 // The test of one record after those before it, of which the work has the weights: 16 times the rows that a record lists, and its flag.
-// A sound record lists some row, so 0 rows say that a record is not sound.
+// A sound record lists some row, so a weight of 0 says that a record is not sound.
 ghost use mathlib.Core.Bool.{_&&_};
 ghost use mathlib.Core.Path.{_≡_};
-ghost use Prim.Native.Nat.{_+_, _*_, _/_, _≤_, _<_};
+ghost use Prim.Native.Nat.{_+_, _*_, _≤_, _<_};
 ghost use lib.Dec.{eqb};
 ghost use lib.ListN.{length};
-ghost use Rattle.paper.specs.Sound.{apart};
-ghost use Rattle.sound.specs.Steps.{ifFew, singleRows, unionRows, productRows, rowsBy, recordFits, Weighable, Steps};
+ghost use Rattle.paper.specs.Sound.{apart, mostRows};
+ghost use Rattle.sound.specs.Steps.{rowsIn, ifFew, singleRows, unionRows, productRows, rowsBy, weightFor, recordFits, Weighable, Steps};
 use crate::state::State;
 use paper::Flag;
 use paper::Record;
@@ -23,9 +23,9 @@ fn together(a: u64, b: u64, flag: u64) -> bool
     a + b == flag && filled(a) + filled(b) == filled(flag)
 }
 
-// The row of a single.
-fn single_rows(r: Record) -> u64
-    ensures { λ n. ⌜ n ≡ singleRows r ⌝ }
+// The weight of a single.
+fn single_weight(r: Record) -> u64
+    ensures { λ n. ⌜ n ≡ weightFor (r .flag) (singleRows r) ⌝ }
 {
     if r.left != 0 {
         return 0;
@@ -33,12 +33,14 @@ fn single_rows(r: Record) -> u64
     if r.right != 0 {
         return 0;
     }
-    1
+    16 + r.flag as u64
 }
 
-// The rows of a union of records with these weights.
-fn union_rows(flag: u64, left: u64, right: u64) -> u64
-    ensures { λ n. ⌜ n ≡ unionRows flag left right ⌝ }
+// The weight of a union of records with these weights. The rows are added where they stand: a union often waits for the weight of its
+// left operand, and this way for one addition only, with no shifts around it.
+fn union_weight(flag: u64, left: u64, right: u64) -> u64
+    requires { ⌜ (0 < rowsIn left) × (rowsIn left ≤ mostRows) × (rowsIn right ≤ mostRows) ⌝ }
+    ensures { λ n. ⌜ n ≡ weightFor flag (unionRows flag left right) ⌝ }
 {
     if left % 16 != flag {
         return 0;
@@ -46,8 +48,8 @@ fn union_rows(flag: u64, left: u64, right: u64) -> u64
     if right % 16 != flag {
         return 0;
     }
-    let rows = left / 16 + right / 16;
-    if rows <= MOST_ROWS { rows } else { 0 }
+    let weight = left + (right - flag);
+    if weight / 16 <= MOST_ROWS { weight } else { 0 }
 }
 
 // So many rows times so many, or 0 if they are too many. Two factors of at most 2 to the power of 24 never are, and the division that
@@ -68,27 +70,28 @@ fn few_product(rows: u64, times: u64) -> u64
     }
 }
 
-// The rows of a product of records with these weights.
-fn product_rows(flag: u64, left: u64, right: u64) -> u64
-    requires { ⌜ 0 < right / 16 ⌝ }
-    ensures { λ n. ⌜ n ≡ productRows flag left right ⌝ }
+// The weight of a product of records with these weights.
+fn product_weight(flag: u64, left: u64, right: u64) -> u64
+    requires { ⌜ 0 < rowsIn right ⌝ }
+    ensures { λ n. ⌜ n ≡ weightFor flag (productRows flag left right) ⌝ }
 {
     if !together(left % 16, right % 16, flag) {
         return 0;
     }
-    few_product(left / 16, right / 16)
+    let rows = few_product(left / 16, right / 16);
+    if rows == 0 { 0 } else { 16 * rows + flag }
 }
 
-// The rows of record `at`, by its kind and its operands.
-fn rows_by(r: Record, at: usize, work: &[u64]) -> u64
+// The weight of record `at`, by its kind and its operands.
+fn weight_by(r: Record, at: usize, work: &[u64]) -> u64
     requires { ⌜ Weighable at (now work) ⌝ }
-    ensures { λ n. ⌜ n ≡ rowsBy r at (now (work .entry)) ⌝ }
+    ensures { λ n. ⌜ n ≡ weightFor (r .flag) (rowsBy r at (now (work .entry))) ⌝ }
 {
     let kind = r.kind;
     let left = r.left as usize;
     let right = r.right as usize;
     if kind == 1 {
-        return single_rows(r);
+        return single_weight(r);
     }
     if left >= at {
         return 0;
@@ -98,8 +101,8 @@ fn rows_by(r: Record, at: usize, work: &[u64]) -> u64
     }
     let flag = r.flag as u64;
     match kind {
-        2 => union_rows(flag, work[left], work[right]),
-        3 => product_rows(flag, work[left], work[right]),
+        2 => union_weight(flag, work[left], work[right]),
+        3 => product_weight(flag, work[left], work[right]),
         _ => 0,
     }
 }
@@ -130,11 +133,11 @@ pub(crate) fn next(t: State, r: Record, work: &mut [u64]) -> State
     if !record_fits(r, t.nodes, t.arity) {
         return e;
     }
-    let rows = rows_by(r, at, &*work);
-    if rows == 0 {
+    let weight = weight_by(r, at, &*work);
+    if weight == 0 {
         return e;
     }
-    work[at] = 16 * rows + r.flag as u64;
+    work[at] = weight;
     e.at = at + 1;
     e.sound = true;
     e.going = at + 1 < t.used;

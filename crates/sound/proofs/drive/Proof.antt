@@ -135,6 +135,7 @@ module _ (table : List Record) (x₀ x : Held) (long : length (x .work) ≡ leng
         λ k l.
         subst (λ (n : ℕ). 0 < n) (sym (rows-of t records (x₀ .work) (x .work) few-places there so-far k l))
         (some-before (t .at) (before .within) (so-far .sound) k l);
+    few = λ k l. omega (arith, so-far .sound k l .few, rows-of t records (x₀ .work) (x .work) few-places there so-far k l);
   }
 
   -- a record that is not sound
