@@ -1,4 +1,3 @@
-pub mod Flags
 pub mod ByKind
 pub mod Stepping
 pub mod Overwriting

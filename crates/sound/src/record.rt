@@ -15,12 +15,12 @@ use places::filled;
 // The most rows that a record may list.
 const MOST_ROWS: u64 = 281474976710656;
 
-// Whether two flags share no bit and together make the third: then its places are as many as theirs.
+// Whether two flags share no bit and together make the third: no place is filled by both, so the third fills as many as they do.
 fn together(a: u64, b: u64, flag: u64) -> bool
     requires { ⌜ (a < 16) × (b < 16) ⌝ }
     ensures { λ c. ⌜ c ≡ apart a b && eqb (a + b) flag ⌝ }
 {
-    a + b == flag && filled(a) + filled(b) == filled(flag)
+    a + b == flag && filled(a & b) == 0
 }
 
 // The weight of a single.
