@@ -1,5 +1,5 @@
 -- Where the entry of a row comes from: at a place of its flag, a union's or a product's row has the entry of a row of one operand, and a single's
--- has the node. First places and flags, then what a sound record lists, then the four ways down and the end.
+-- has the node; a union's row is that row as a whole. First places and flags, then what a sound record lists, then the four ways down and the end.
 use mathlib.Core.Bool.{Bool, false, true, _||_}
 use mathlib.Core.List.{List, [], _++_, _∷_}
 use mathlib.Core.Path.{_∙_, _≡_, ap, ap₂, refl, sym}
@@ -21,7 +21,7 @@ use Rattle.laws.proofs.Shapes.{entry-blank, entry-node, merge-at-left, merge-at
 use Rattle.laws.proofs.SoundRecords.{sound-from-all}
 use Rattle.sound.proofs.RowCounts.{product-count, single-count, union-count}
 use Rattle.row.specs.Descent.{Record}
-use Rattle.row.specs.Descending.{entryOf, rowsOf}
+use Rattle.row.specs.Descending.{entryOf, rowOf, rowsOf}
 use Rattle.row.proofs.RowNumbers.{Factors, factors, left-row, right-row, row-listed}
 
 -- a place of a flag is one of the arity's
@@ -38,6 +38,23 @@ pub record Leads (arity : ℕ) (used : List Record) (p i n j m : ℕ) : Type 0 w
   pub has : hasPlace (entry used j .flag) p ≡ true
   pub same : entryOf arity used j m p ≡ entryOf arity used i n p
 
+-- row n of record i is row m of record j, which has a lower number and the same flag
+pub record Shares (arity : ℕ) (used : List Record) (i n j m : ℕ) : Type 0 where
+  pub lower : j < i
+  pub number : m < length (rowsOf arity used j)
+  pub flag : entry used j .flag ≡ entry used i .flag
+  pub row : rowOf arity used j m ≡ rowOf arity used i n
+
+-- so it has the same entries
+pub same-entries : {arity : ℕ} {used : List Record} {i n j m : ℕ} → Shares arity used i n j m → (p : ℕ) → hasPlace (entry used i .flag) p ≡ true
+    → Leads arity used p i n j m
+same-entries s p has = record {
+  lower = s .lower;
+  number = s .number;
+  has = ap (λ (b : ℕ). hasPlace b p) (s .flag) ∙ has;
+  same = ap (λ (x : Row). getD x p blank) (s .row);
+}
+
 -- record i of the used records, which are sound, lists a row with number n
 pub record Lists (arity nodes : ℕ) (used : List Record) (i n : ℕ) : Type 0 where
   pub few-nodes : nodes ≤ 4095
@@ -48,7 +65,7 @@ pub record Lists (arity nodes : ℕ) (used : List Record) (i n : ℕ) : Type 0 w
 -- ---- what it lists
 module _ {arity nodes : ℕ} {used : List Record} {i n : ℕ} (l : Lists arity nodes used i n) where
   abbrev row : Row
-  row = getD (rowsOf arity used i) n []
+  row = rowOf arity used i n
 
   shape : (length row ≡ arity) × (placesOf row ≡ entry used i .flag)
   shape =
@@ -73,6 +90,9 @@ module _ {arity nodes : ℕ} {used : List Record} {i n : ℕ} (l : Lists arity n
   operand : (j : ℕ) → j < i → getD (listings arity (take i used)) j [] ≡ rowsOf arity used j
   operand j below = listings-first arity used i j (omega (arith, l .there)) below
 
+  row-in : {rows : List Row} → rowsOf arity used i ≡ rows → row ≡ getD rows n []
+  row-in e = ap (λ (rows : List Row). getD rows n []) e
+
   single-lists : IsSingle r → rowsOf arity used i ≡ singleRow arity (r .node) (r .flag) ∷ []
   single-lists e = listings-at arity used i (l .there) ∙ single-rows arity (listings arity (take i used)) r (e .0)
 
@@ -88,13 +108,31 @@ module _ {arity nodes : ℕ} {used : List Record} {i n : ℕ} (l : Lists arity n
       ∙ product-rows arity (listings arity (take i used)) r (e .0)
       ∙ ap₂ products (operand (r .left) (e .1)) (operand (r .right) (e .2))
 
+  -- ---- the row of a union
+  pub goes-left : IsUnion used i r → n < length (rowsOf arity used (r .left)) → Shares arity used i n (r .left) n
+  goes-left e below = record {
+    lower = e .1;
+    number = below;
+    flag = e .3;
+    row = sym (row-in (union-lists e) ∙ left-row (rowsOf arity used (r .left)) (rowsOf arity used (r .right)) n below);
+  }
+
+  pub goes-right : IsUnion used i r → length (rowsOf arity used (r .left)) ≤ n
+      → Shares arity used i n (r .right) (n - length (rowsOf arity used (r .left)))
+  goes-right e above = record {
+    lower = e .2;
+    number = omega (arith, l .number, union-count arity used i (l .there) (e .1) (e .2) (e .0));
+    flag = e .4;
+    row = sym (row-in (union-lists e) ∙ right-row (rowsOf arity used (r .left)) (rowsOf arity used (r .right)) n above);
+  }
+
 -- ---- the entry at a place of its flag
 module _ {arity nodes : ℕ} {used : List Record} {i n : ℕ} (l : Lists arity nodes used i n) (p : ℕ) (has : hasPlace (r l .flag) p ≡ true) where
   inside : p < arity
   inside = place-below arity p (r l .flag) (l .sound i (l .there) .flag-below) has
 
   entry-in : {rows : List Row} → rowsOf arity used i ≡ rows → entryOf arity used i n p ≡ getD (getD rows n []) p blank
-  entry-in e = ap (λ (rows : List Row). getD (getD rows n []) p blank) e
+  entry-in e = ap (λ (x : Row). getD x p blank) (row-in l e)
 
   -- a single
   pub at-node : IsSingle (r l) → entryOf arity used i n p ≡ r l .node
@@ -104,26 +142,6 @@ module _ {arity nodes : ℕ} {used : List Record} {i n : ℕ} (l : Lists arity n
       ∙ ap (λ (m : ℕ). getD (getD (singleRow arity (r l .node) (r l .flag) ∷ []) m []) p blank) only
       ∙ single-at arity (r l .node) (r l .flag) p inside
       ∙ rw has refl
-
-  -- a union
-  pub goes-left : IsUnion used i (r l) → n < length (rowsOf arity used (r l .left)) → Leads arity used p i n (r l .left) n
-  goes-left e below = record {
-    lower = e .1;
-    number = below;
-    has = ap (λ (b : ℕ). hasPlace b p) (e .3) ∙ has;
-    same = sym (entry-in (union-lists l e)
-        ∙ ap (λ (x : Row). getD x p blank) (left-row (rowsOf arity used (r l .left)) (rowsOf arity used (r l .right)) n below));
-  }
-
-  pub goes-right : IsUnion used i (r l) → length (rowsOf arity used (r l .left)) ≤ n
-      → Leads arity used p i n (r l .right) (n - length (rowsOf arity used (r l .left)))
-  goes-right e above = record {
-    lower = e .2;
-    number = omega (arith, l .number, union-count arity used i (l .there) (e .1) (e .2) (e .0));
-    has = ap (λ (b : ℕ). hasPlace b p) (e .4) ∙ has;
-    same = sym (entry-in (union-lists l e)
-        ∙ ap (λ (x : Row). getD x p blank) (right-row (rowsOf arity used (r l .left)) (rowsOf arity used (r l .right)) n above));
-  }
 
   -- a product
   module _ (e : IsProduct used i (r l)) where

@@ -13,11 +13,11 @@ use Rattle.paper.specs.Questions.{hasPlace}
 use Rattle.paper.specs.Row.{blank}
 use Rattle.paper.specs.Sound.{entry}
 use Rattle.laws.specs.QuestionRows.{IsProduct, IsSingle, IsUnion}
-use Rattle.row.specs.Descent.{Readable, Record, State, flagAt, lower, openFrom, placed, productSide, rowsAt, stepped, unionSide}
-use Rattle.row.specs.Descending.{Filled, Underway, rowsOf, sought, soughtRow, usedBy}
+use Rattle.row.specs.Descent.{Readable, Record, State, beginLower, flagAt, lower, lowerFrom, openFrom, placed, productSide, rowsAt, stepped, unionSide}
+use Rattle.row.specs.Descending.{Filled, Starting, Underway, rowsOf, sought, soughtRow, usedBy}
 use Rattle.row.proofs.Flags.{First, first-open}
-use Rattle.row.proofs.Leading.{Leads, Lists, at-node, goes-left, goes-left-factor, goes-right, goes-right-factor, parts}
-use Rattle.row.proofs.Descents.{all-found, at-root, flag-is, goes-down, lists-at, rows-are, sought-blank}
+use Rattle.row.proofs.Leading.{Leads, Lists, Shares, at-node, goes-left, goes-left-factor, goes-right, goes-right-factor, parts, same-entries}
+use Rattle.row.proofs.Descents.{all-found, at-start, flag-is, goes-down, lists-at, rows-are, sought-blank, start-falls, start-stays}
 use Rattle.row.proofs.Turns.{at-product, at-single, at-union}
 
 -- what is left of the descents: it falls
@@ -71,29 +71,46 @@ module _ (table : List Record) (s : State) (work : List ℕ) (going : s .going �
       kinds
 
   -- ---- a step down
-  down : (j m : ℕ) → Leads (s .asked .arity) used (s .place) (s .at) (s .number) j m → Goes table work s (lower s j m)
-  down j m leads = record {
+  down : (i n j m : ℕ) → Leads (s .asked .arity) used (s .place) (s .at) (s .number) i n → Starting table (lowerFrom s i n j m)
+      → Goes table work s (lowerFrom s i n j m)
+  down i n j m leads starting = record {
     asked = refl;
     goes = λ _. record {
       answerable = u .answerable;
-      standing = goes-down table s work (u .answerable) j m (u .standing) leads;
+      standing = goes-down table s i n j m (u .standing) leads;
+      starting = starting;
       filled = record { long = u .filled .long; before = u .filled .before; behind = u .filled .behind };
     };
     stops = λ stopped. absurd (true≢false (sym going ∙ stopped));
     falls = omega (arith, leads .lower);
   }
 
+  -- to an operand that has the entry: the start stays
+  down-entry : (i n : ℕ) → Leads (s .asked .arity) used (s .place) (s .at) (s .number) i n → Goes table work s (lower s i n)
+  down-entry i n leads = down i n (s .start) (s .listed) leads (start-stays table s i n (u .starting) (leads .lower))
+
+  -- to an operand that has the row: from the start, the start goes along
+  down-row : (i n : ℕ) → Shares (s .asked .arity) used (s .at) (s .number) i n → Goes table work s (beginLower s i n)
+  down-row i n shares = go (eqb (s .at) (s .start)) refl
+    where
+      leading : Leads (s .asked .arity) used (s .place) (s .at) (s .number) i n
+      leading = same-entries shares (s .place) (u .standing .has)
+
+      go : (c : Bool) → eqb (s .at) (s .start) ≡ c → Goes table work s (cond c (lowerFrom s i n i n) (lower s i n))
+      go true h = down i n i n leading (start-falls table s i n (u .starting) (eqb-true (s .at) (s .start) h) shares)
+      go false h = down-entry i n leading
+
   union-goes : IsUnion used (s .at) r → Goes table work s (unionSide s r work)
   union-goes e = go (ltb (s .number) (rowsAt work (r .left))) refl
     where
       go : (c : Bool) → ltb (s .number) (rowsAt work (r .left)) ≡ c
-          → Goes table work s (cond c (lower s (r .left) (s .number)) (lower s (r .right) (s .number - rowsAt work (r .left))))
+          → Goes table work s (cond c (beginLower s (r .left) (s .number)) (beginLower s (r .right) (s .number - rowsAt work (r .left))))
       go true h =
-          down (r .left) (s .number) (goes-left here (s .place) (u .standing .has) e
+          down-row (r .left) (s .number) (goes-left here e
           (omega (arith, ltb-true (s .number) (rowsAt work (r .left)) h, rows-of (r .left) (e .1))))
       go false h =
           rw (rows-of (r .left) (e .1))
-          (down (r .right) (s .number - length (rowsOf (s .asked .arity) used (r .left))) (goes-right here (s .place) (u .standing .has) e
+          (down-row (r .right) (s .number - length (rowsOf (s .asked .arity) used (r .left))) (goes-right here e
           (omega (arith, ltb-false (s .number) (rowsAt work (r .left)) h, rows-of (r .left) (e .1)))))
 
   product-goes : IsProduct used (s .at) r → Goes table work s (productSide s r work)
@@ -104,8 +121,8 @@ module _ (table : List Record) (s : State) (work : List ℕ) (going : s .going �
 
       go : (c : Bool) → hasPlace (entry used (r .left) .flag) (s .place) ≡ c
           → Goes table work s (cond c (lower s (r .left) (s .number / n)) (lower s (r .right) (s .number % n)))
-      go true h = down (r .left) (s .number / n) (goes-left-factor here (s .place) (u .standing .has) e h)
-      go false h = down (r .right) (s .number % n) (goes-right-factor here (s .place) (u .standing .has) e h)
+      go true h = down-entry (r .left) (s .number / n) (goes-left-factor here (s .place) (u .standing .has) e h)
+      go false h = down-entry (r .right) (s .number % n) (goes-right-factor here (s .place) (u .standing .has) e h)
 
   -- ---- a node placed
   abbrev next : ℕ
@@ -146,17 +163,29 @@ module _ (table : List Record) (s : State) (work : List ℕ) (going : s .going �
           ∙ u .filled .behind p (omega (arith, next-first .from));
     }
 
+    starts : Starting table (placed s node)
+    unfolding placed
+    starts = record {
+      used = u .starting .used;
+      flag = u .starting .flag;
+      number = u .starting .number;
+      row = u .starting .row;
+      below = omega arith;
+      there = λ _. refl;
+    }
+
     placed-goes : Goes table work s (placed s node)
     unfolding placed
     placed-goes = record {
       asked = refl;
       goes = λ more. record {
         answerable = u .answerable;
-        standing = at-root table (placed s node) work (u .answerable) refl refl (ltb-true next 4 more) (next-first .has (ltb-true next 4 more));
+        standing = at-start table (placed s node) starts refl (ltb-true next 4 more) (next-first .has (ltb-true next 4 more));
+        starting = starts;
         filled = fills;
       };
       stops = λ last. all-found table (placed s node) work (u .answerable) fills (ltb-false next 4 last);
-      falls = omega (arith, next-first .from, next-first .most, u .standing .place, u .answerable .root-used, u .answerable .few-used);
+      falls = omega (arith, next-first .from, next-first .most, u .standing .place, u .starting .used, u .answerable .few-used);
     }
 
   single-goes : IsSingle r → Goes table work s (placed s (r .node))

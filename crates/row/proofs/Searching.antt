@@ -21,9 +21,9 @@ use Rattle.sound.specs.Counting.{rowsInSet}
 use Rattle.sound.specs.Weights.{weights}
 use Rattle.sound.proofs.Cells.{cell, cell-rows, weighed-length}
 use Rattle.row.specs.Descent.{State, openFrom}
-use Rattle.row.specs.Descending.{Answerable, Descended, Filled, Ready}
+use Rattle.row.specs.Descending.{Answerable, Descended, Filled, Ready, Starting}
 use Rattle.row.specs.Whole.{blanks, rootIn, seeking}
-use Rattle.row.proofs.Descents.{all-found, at-root, sought-blank}
+use Rattle.row.proofs.Descents.{all-found, at-start, sought-blank}
 use Rattle.row.proofs.Flags.{first-open}
 
 -- ---- rows of blanks
@@ -69,6 +69,9 @@ module _ (h : Head) (table : List Record) (work : List ℕ) (S : Sound h table) 
       numbered = numbered;
     }
 
+    starting : Starting table s
+    starting = record { used = fits .0; flag = fits .1; number = numbered; row = refl; below = omega arith; there = λ _. refl }
+
     -- the places before the first open one are fixed
     filled : Filled table s
     filled = record {
@@ -84,7 +87,8 @@ module _ (h : Head) (table : List Record) (work : List ℕ) (S : Sound h table) 
         let small : s .place < 4 = ltb-true (s .place) 4 going in
         record {
           answerable = answerable;
-          standing = at-root table s weighed answerable refl refl small (first-open (h .places) 0 (omega arith) .has small);
+          standing = at-start table s starting refl small (first-open (h .places) 0 (omega arith) .has small);
+          starting = starting;
           filled = filled;
         }
 

@@ -1,5 +1,5 @@
--- What the descents find: the row asked for, entry by entry. First what a record lists, then what the descents lean on, where one stands, what
--- the row has so far, and what is left at the end.
+-- What the descents find: the row asked for, entry by entry. First what a record lists, then what the descents lean on, where one stands and
+-- where the next one begins, what the row has so far, and what is left at the end.
 use mathlib.Core.Bool.{true, false}
 use mathlib.Core.List.{List, []}
 use mathlib.Core.Path.{_≡_}
@@ -13,19 +13,22 @@ use Rattle.laws.specs.QuestionRows.{SoundAt}
 use Rattle.sound.specs.Weights.{weight}
 use Rattle.row.specs.Descent.{Asked, Record, State}
 
--- the rows of record i, and the entry at index p of the one with number n
+-- the rows of record i, the one with number n, and its entry at index p
 abbrev pub rowsOf : ℕ → List Record → ℕ → List Row
 rowsOf arity used i = getD (listings arity used) i []
 
+abbrev pub rowOf : ℕ → List Record → ℕ → ℕ → Row
+rowOf arity used i n = getD (rowsOf arity used i) n []
+
 abbrev pub entryOf : ℕ → List Record → ℕ → ℕ → ℕ → ℕ
-entryOf arity used i n p = getD (getD (rowsOf arity used i) n []) p blank
+entryOf arity used i n p = getD (rowOf arity used i n) p blank
 
 -- the used records, the row asked for, and its entry at index p
 abbrev pub usedBy : Asked → List Record → List Record
 usedBy q table = take (q .used) table
 
 abbrev pub soughtRow : Asked → List Record → Row
-soughtRow q table = getD (rowsOf (q .arity) (usedBy q table) (q .root)) (q .number) []
+soughtRow q table = rowOf (q .arity) (usedBy q table) (q .root) (q .number)
 
 abbrev pub sought : Asked → List Record → ℕ → ℕ
 sought q table p = getD (soughtRow q table) p blank
@@ -52,6 +55,15 @@ pub record Standing (table : List Record) (s : State) : Type 0 where
   pub has : hasPlace (entry (usedBy (s .asked) table) (s .at) .flag) (s .place) ≡ true
   pub same : entryOf (s .asked .arity) (usedBy (s .asked) table) (s .at) (s .number) (s .place) ≡ sought (s .asked) table (s .place)
 
+-- the start has the open places, and lists the row asked for. The descent stands there, at this row, or below
+pub record Starting (table : List Record) (s : State) : Type 0 where
+  pub used : s .start < s .asked .used
+  pub flag : entry (usedBy (s .asked) table) (s .start) .flag ≡ s .asked .places
+  pub number : s .listed < length (rowsOf (s .asked .arity) (usedBy (s .asked) table) (s .start))
+  pub row : rowOf (s .asked .arity) (usedBy (s .asked) table) (s .start) (s .listed) ≡ soughtRow (s .asked) table
+  pub below : s .at ≤ s .start
+  pub there : s .at ≡ s .start → s .number ≡ s .listed
+
 -- the row has the entries before the place, and is blank from there on
 pub record Filled (table : List Record) (s : State) : Type 0 where
   pub long : length (s .row) ≡ 4
@@ -61,6 +73,7 @@ pub record Filled (table : List Record) (s : State) : Type 0 where
 pub record Underway (table : List Record) (s : State) (work : List ℕ) : Type 0 where
   pub answerable : Answerable (s .asked) table work
   pub standing : Standing table s
+  pub starting : Starting table s
   pub filled : Filled table s
 
 abbrev pub Ready : List Record → State → List ℕ → Type 0

@@ -4,7 +4,7 @@ use mathlib.Core.Bool.{cond}
 use mathlib.Core.List.{List}
 use mathlib.Core.Path.{_≡_}
 use Prim.Native.Nat.{ℕ, zero, suc, _+_, _-_, _/_, _%_, _<_}
-use lib.Dec.{ltb}
+use lib.Dec.{eqb, ltb}
 use lib.ListN.{length, getD, set}
 pub use Rattle.paper.specs.declared.Record.{Record}
 use Rattle.paper.specs.Questions.{hasPlace}
@@ -28,17 +28,27 @@ openOf flag (suc n) index = cond (hasPlace flag index) index (openOf flag n (suc
 abbrev pub openFrom : ℕ → ℕ → ℕ
 openFrom flag index = openOf flag (4 - index) index
 
--- the descent goes on at row n of record i
-abbrev pub lower : State → ℕ → ℕ → State
-lower t i n = record { at = i; number = n; place = t .place; row = t .row; asked = t .asked; going = t .going }
+-- the descent goes on at row n of record i, and the next one begins at row m of record j
+abbrev pub lowerFrom : State → ℕ → ℕ → ℕ → ℕ → State
+lowerFrom t i n j m = record { at = i; number = n; start = j; listed = m; place = t .place; row = t .row; asked = t .asked; going = t .going }
 
--- the node stands at the place, and the next open place is sought from the root
+-- the start stays
+abbrev pub lower : State → ℕ → ℕ → State
+lower t i n = lowerFrom t i n (t .start) (t .listed)
+
+-- the same below a union, whose row is that row: from the start, the next one begins there too
+abbrev pub beginLower : State → ℕ → ℕ → State
+beginLower t i n = cond (eqb (t .at) (t .start)) (lowerFrom t i n i n) (lower t i n)
+
+-- the node stands at the place, and the next open place is sought from the start
 unfoldable pub placed : State → ℕ → State
 placed t node =
     let next : ℕ = openFrom (t .asked .places) (t .place + 1) in
     record {
-      at = t .asked .root;
-      number = t .asked .number;
+      at = t .start;
+      number = t .listed;
+      start = t .start;
+      listed = t .listed;
       place = next;
       row = set (t .row) (t .place) node;
       asked = t .asked;
@@ -48,7 +58,7 @@ placed t node =
 abbrev pub unionSide : State → Record → List ℕ → State
 unionSide t r work =
     let rows : ℕ = rowsAt work (r .left) in
-    cond (ltb (t .number) rows) (lower t (r .left) (t .number)) (lower t (r .right) (t .number - rows))
+    cond (ltb (t .number) rows) (beginLower t (r .left) (t .number)) (beginLower t (r .right) (t .number - rows))
 
 abbrev pub productSide : State → Record → List ℕ → State
 productSide t r work =

@@ -21,7 +21,7 @@ use Rattle.sound.specs.declared.Weighed.the-variants as WeighedIs
 use Rattle.row.specs.Descent.{Asked, State, openFrom}
 
 -- ---- the set
--- its record, where the descents begin
+-- its record, where the first descent begins
 abbrev pub rootIn : Set → ℕ
 rootIn SetIs.Empty = 0
 rootIn SetIs.Unit = 0
@@ -31,9 +31,18 @@ rootIn (SetIs.Record i) = i
 abbrev pub blanks : Row
 blanks = blank ∷ blank ∷ blank ∷ blank ∷ []
 
--- the descent for a place begins at the root. Index 4 is no place
+-- the first descent, for this place, begins at the root. Index 4 is no place
 abbrev pub atRoot : Asked → ℕ → State
-atRoot q place = record { at = q .root; number = q .number; place = place; row = blanks; asked = q; going = ltb place 4 }
+atRoot q place = record {
+  at = q .root;
+  number = q .number;
+  start = q .root;
+  listed = q .number;
+  place = place;
+  row = blanks;
+  asked = q;
+  going = ltb place 4;
+}
 
 abbrev pub refusedWith : Refusal → ℕ → State
 refusedWith why used = atRoot (record { number = 0; root = 0; arity = 0; used = used; places = noPlace; answer = WrittenIs.Refused why }) 4

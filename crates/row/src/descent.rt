@@ -1,7 +1,7 @@
 // One turn of a descent: to the operand that the row comes from, or, at a single, on to the next open place.
 ghost use mathlib.Core.Path.{_≡_};
 ghost use Prim.Native.Nat.{_<_};
-ghost use Rattle.row.specs.Descent.{Readable, Steps, rowsAt, lower, placed, unionSide, productSide};
+ghost use Rattle.row.specs.Descent.{Readable, Steps, rowsAt, lower, beginLower, placed, unionSide, productSide};
 use crate::flag::open_from;
 use crate::state::State;
 use paper::Record;
@@ -17,7 +17,19 @@ fn go_down(t: State, at: usize, number: u64) -> State
     s
 }
 
-// The node stands at the place, and the descent for the next open place begins at the root.
+// The same below a union, whose row is that row as a whole. Where the descent stands at the start, the next one begins there too.
+fn begin_lower(t: State, at: usize, number: u64) -> State
+    ensures { λ s. ⌜ s ≡ beginLower t at number ⌝ }
+{
+    let mut s = go_down(t, at, number);
+    if t.at == t.start {
+        s.start = at;
+        s.listed = number;
+    }
+    s
+}
+
+// The node stands at the place, and the descent for the next open place begins at the start.
 fn place_node(t: State, node: u16) -> State
     requires { ⌜ t .place < 4 ⌝ }
     ensures { λ s. ⌜ s ≡ placed t node ⌝ }
@@ -26,8 +38,8 @@ fn place_node(t: State, node: u16) -> State
     let mut s = t;
     s.row[place] = node;
     s.place = open_from(t.asked.places, place + 1);
-    s.at = t.asked.root;
-    s.number = t.asked.number;
+    s.at = t.start;
+    s.number = t.listed;
     s.going = s.place < 4;
     s
 }
@@ -40,9 +52,9 @@ fn union_side(t: State, r: Record, work: &[u64]) -> State
     let left = r.left as usize;
     let rows = work[left] / 16;
     if t.number < rows {
-        return go_down(t, left, t.number);
+        return begin_lower(t, left, t.number);
     }
-    go_down(t, r.right as usize, t.number - rows)
+    begin_lower(t, r.right as usize, t.number - rows)
 }
 
 // A product lists, for each left row, every right row. The place is one of the left factor or one of the right.

@@ -1,4 +1,5 @@
-// Row by number: for each open place a descent from the root, by the numbers of rows that `weigh` has left in the work.
+// Row by number: for each open place a descent, by the numbers of rows that `weigh` has left in the work. The first begins at the root, the
+// next ones below the unions that all of them share.
 ghost use Rattle.row.specs.Descending.{Ready, Descended};
 ghost use Rattle.row.specs.Face.{Numbers};
 use crate::descent::next;

@@ -17,7 +17,7 @@ use sound::Weighed;
 use sound::clear;
 use sound::set_rows;
 
-// The record where the descents begin. Empty and unit have none, and no descent.
+// The record where the first descent begins. Empty and unit have none, and no descent.
 fn root_in(set: Set) -> usize
     ensures { λ i. ⌜ i ≡ rootIn set ⌝ }
 {
@@ -28,13 +28,15 @@ fn root_in(set: Set) -> usize
     }
 }
 
-// The descent for a place begins at the root. Index 4 is no place, and no descent.
+// The first descent, for this place, begins at the root. Index 4 is no place, and no descent.
 fn at_root(asked: Asked, place: usize) -> State
     ensures { λ s. ⌜ s ≡ atRoot asked place ⌝ }
 {
     State {
         at: asked.root,
         number: asked.number,
+        start: asked.root,
+        listed: asked.number,
         place: place,
         row: [Place::BLANK; 4],
         asked: asked,

@@ -15,24 +15,24 @@ mul-rows c = search needs
 shared-slice-read-rows : tie.Need-shared-slice-read-rows
 shared-slice-read-rows c = search needs
 
-go-down-requires : tie.Need-go-down-requires
-go-down-requires c κs = search needs
+begin-lower-requires : tie.Need-begin-lower-requires
+begin-lower-requires c κs = search needs
 
 returns : tie.Need-returns
 returns c =
     let a = c .before .before .before .before .before .before .args in
-    c .go-down .ensures ∙ rw (lt-ltb (a .t .number) (rowsAt (a .work .now) (a .r .left)) (c .before .if1 .taken)) refl
+    c .begin-lower .ensures ∙ rw (lt-ltb (a .t .number) (rowsAt (a .work .now) (a .r .left)) (c .before .if1 .taken)) refl
 
-cast-go-down : tie.Need-cast-go-down
-cast-go-down c = search needs
+cast-begin-lower : tie.Need-cast-begin-lower
+cast-begin-lower c = search needs
 
-go-down-requires-2 : tie.Need-go-down-requires-2
-go-down-requires-2 c κs = search needs
+begin-lower-requires-2 : tie.Need-begin-lower-requires-2
+begin-lower-requires-2 c κs = search needs
 
 returns-2 : tie.Need-returns-2
 returns-2 c =
     let a = c .before .before .before .before .before .before .before .before .args in
-    c .go-down2 .ensures ∙ rw (le-ltb (a .t .number) (rowsAt (a .work .now) (a .r .left)) (c .before .before .before .if1 .left)) refl
+    c .begin-lower2 .ensures ∙ rw (le-ltb (a .t .number) (rowsAt (a .work .now) (a .r .left)) (c .before .before .before .if1 .left)) refl
 
 pub union-side-spec : {M : Type 1} → statement M
 union-side-spec =
@@ -41,8 +41,8 @@ union-side-spec =
     cast-left
     mul-rows
     shared-slice-read-rows
-    go-down-requires
+    begin-lower-requires
     returns
-    cast-go-down
-    go-down-requires-2
+    cast-begin-lower
+    begin-lower-requires-2
     returns-2)
