@@ -1,5 +1,5 @@
 -- `whole::start` tests the row number and the room, and begins at the root.
-use mathlib.Core.Path.{_∙_, refl, sym}
+use mathlib.Core.Path.{_∙_, sym}
 use native.Mathlib.Omega.{arith}
 use borrow.Author.Needs.{needs}
 use Rattle.row.proofs.Beginnings.{number-refused, room-refused, seeks}
@@ -44,7 +44,7 @@ returns-3 : tie.Need-returns-3
 returns-3 c =
     let place = c .before in
     let a = place .before .before .before .before .before .before .before .before .args in
-    c .at-root .ensures ∙ rw (seeks (a .head) (a .work .now) (a .number) (a .room) (omega arith) (omega arith), place .before .root-in .ensures, place .open-from .ensures) refl
+    c .at-root .ensures ∙ rw (seeks (a .head) (a .work .now) (a .number) (a .room) (omega arith) (omega arith), place .before .root-in .ensures, place .open-from .ensures)
 
 pub start-spec : {M : Type 1} → statement M
 start-spec =
