@@ -1,7 +1,7 @@
 // The library for C: include/tarnsatchel.h says it in C. First the exported functions, each a straight line over the function of its
 // name; then the head's six numbers read and written; then each answer as a number.
 ghost use mathlib.Core.Path.{_≡_};
-ghost use Rattle.paper.specs.Answers.{numberOf, told, saysBuilt, saysCounted, saysFixed, saysMember, saysProjected, saysWritten};
+ghost use Rattle.paper.specs.Answers.{told, saysBuilt, saysCounted, saysFixed, saysMember, saysProjected, saysWritten};
 ghost use Rattle.c.specs.Told.{setKind, setRecord, headNumbers, setOf, headOf, code, listedNumber, Tells};
 ghost use Rattle.c.specs.Told.{TellsBuild, TellsCount, TellsRow, TellsMember, TellsProject, TellsFix};
 use paper::Built;
@@ -11,7 +11,6 @@ use paper::Head;
 use paper::Member;
 use paper::Projected;
 use paper::Record;
-use paper::Refusal;
 use paper::Set;
 use paper::Written;
 
@@ -183,7 +182,7 @@ fn tell_build(built: Built, head: &mut [u16; 6]) -> u8
     ensures { λ n. ⌜ Tells (told headNumbers (saysBuilt built)) (now (head .entry)) n (now (head .exit)) ⌝ }
 {
     match built {
-        Built::Refused(r) => number(r),
+        Built::Refused(r) => r.number(),
         Built::Set(h) => {
             *head = numbers_of(h);
             0
@@ -195,7 +194,7 @@ fn tell_count(counted: Counted, rows: &mut u64) -> u8
     ensures { λ n. ⌜ Tells (saysCounted counted) (now (rows .entry)) n (now (rows .exit)) ⌝ }
 {
     match counted {
-        Counted::Refused(r) => number(r),
+        Counted::Refused(r) => r.number(),
         Counted::Rows(n) => {
             *rows = n;
             0
@@ -207,7 +206,7 @@ fn tell_row(written: Written) -> u8
     ensures { λ n. ⌜ n ≡ code (saysWritten written) ⌝ }
 {
     match written {
-        Written::Refused(r) => number(r),
+        Written::Refused(r) => r.number(),
         Written::Row => 0,
     }
 }
@@ -216,7 +215,7 @@ fn tell_member(member: Member, listed: &mut u8) -> u8
     ensures { λ n. ⌜ Tells (told listedNumber (saysMember member)) (now (listed .entry)) n (now (listed .exit)) ⌝ }
 {
     match member {
-        Member::Refused(r) => number(r),
+        Member::Refused(r) => r.number(),
         Member::Listed => {
             *listed = 1;
             0
@@ -232,7 +231,7 @@ fn tell_project(projected: Projected) -> u8
     ensures { λ n. ⌜ n ≡ code (saysProjected projected) ⌝ }
 {
     match projected {
-        Projected::Refused(r) => number(r),
+        Projected::Refused(r) => r.number(),
         Projected::Marks => 0,
     }
 }
@@ -241,32 +240,10 @@ fn tell_fix(answer: Fixed, fixed: &mut [u16; 6]) -> u8
     ensures { λ n. ⌜ Tells (told headNumbers (saysFixed answer)) (now (fixed .entry)) n (now (fixed .exit)) ⌝ }
 {
     match answer {
-        Fixed::Refused(r) => number(r),
+        Fixed::Refused(r) => r.number(),
         Fixed::Set(h) => {
             *fixed = numbers_of(h);
             0
         }
-    }
-}
-
-// The number that says no.
-fn number(r: Refusal) -> u8
-    ensures { λ n. ⌜ n ≡ numberOf r ⌝ }
-{
-    match r {
-        Refusal::Tree => 1,
-        Refusal::ManyNodes => 2,
-        Refusal::Query => 3,
-        Refusal::Twice => 4,
-        Refusal::ShortWork => 5,
-        Refusal::ShortTable => 6,
-        Refusal::Place => 7,
-        Refusal::Node => 8,
-        Refusal::RowNumber => 9,
-        Refusal::ShortOutput => 10,
-        Refusal::NotSound => 11,
-        Refusal::UnitTwice => 12,
-        Refusal::RowLength => 13,
-        Refusal::LongInput => 14,
     }
 }

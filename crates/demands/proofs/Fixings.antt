@@ -11,7 +11,7 @@ use Rattle.paper.specs.declared.Fixed.{Fixed}
 use Rattle.paper.specs.declared.Fixed.the-variants as FixedIs
 use Rattle.paper.specs.declared.Head.{Head}
 use Rattle.paper.specs.declared.Record.{Record}
-use Rattle.paper.specs.Answers.{saysFixed, told}
+use Rattle.paper.specs.Answers.{told}
 use Rattle.paper.specs.Questions.{fixedSet, questionWork}
 use Rattle.paper.specs.Records.{listing}
 use Rattle.paper.specs.Refusals.{Reply, answer, fix, isOpen, over, refused, targetAfter}

@@ -12,7 +12,7 @@ use Rattle.paper.specs.Answers.{numberOf}
 use Rattle.paper.specs.Questions.{questionWork}
 use Rattle.paper.specs.Records.{listing}
 use Rattle.paper.specs.Refusals.{Reply, refused, answer}
-use Rattle.laws.specs.Fixings.{Fixing, Lent, narrowed}
+use Rattle.laws.specs.Fixings.{Fixing, narrowed}
 use Rattle.fix.specs.Face.{Fixes}
 
 pub record Call : Type 0 where

@@ -23,28 +23,6 @@ pub(crate) struct Page {
     pub(crate) going: bool,
 }
 
-// The number that says no.
-fn number(why: Refusal) -> u8
-    ensures { λ n. ⌜ n ≡ numberOf why ⌝ }
-{
-    match why {
-        Refusal::Tree => 1,
-        Refusal::ManyNodes => 2,
-        Refusal::Query => 3,
-        Refusal::Twice => 4,
-        Refusal::ShortWork => 5,
-        Refusal::ShortTable => 6,
-        Refusal::Place => 7,
-        Refusal::Node => 8,
-        Refusal::RowNumber => 9,
-        Refusal::ShortOutput => 10,
-        Refusal::NotSound => 11,
-        Refusal::UnitTwice => 12,
-        Refusal::RowLength => 13,
-        Refusal::LongInput => 14,
-    }
-}
-
 // One line with the number that says no, and no more.
 pub(crate) fn refuse(why: Refusal, text: &mut [u8]) -> Page
     requires { ⌜ (58 ≤ length (now text)) × (length (now text) ≤ 65536) ⌝ }
@@ -54,7 +32,7 @@ pub(crate) fn refuse(why: Refusal, text: &mut [u8]) -> Page
         &mut *text,
         0,
         &[b'r', b'e', b'f', b'u', b's', b'e', b'd', b' '],
-        number(why) as u64,
+        why.number() as u64,
     );
     Page {
         number: 0,

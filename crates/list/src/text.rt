@@ -1,6 +1,5 @@
 // Text behind the first `at` bytes of a buffer: words, numbers, the rows' lines. Each function answers how many bytes there are then.
-ghost use mathlib.Core.List.{[], _∷_, _++_};
-ghost use mathlib.Core.Path.{_≡_};
+ghost use mathlib.Core.List.{[], _∷_};
 ghost use Prim.Native.Nat.{_+_, _*_, _≤_, _<_};
 ghost use lib.ListN.{length, take};
 ghost use Rattle.list.specs.Text.{Puts, numberText, entryText, rowText, lineText, factText};

@@ -1,5 +1,5 @@
 -- 'A set is sound if': the test, clause by clause in the paper's order.
-use mathlib.Core.Bool.{Bool, true, false, _&&_, _||_}
+use mathlib.Core.Bool.{Bool, true, _&&_, _||_}
 use mathlib.Core.List.{List, [], _∷_, _++_}
 use Prim.Native.Nat.{ℕ, _+_, _^_}
 use lib.Bits.{bitAnd}

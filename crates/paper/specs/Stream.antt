@@ -1,6 +1,6 @@
 -- 'The input stream': its records, and where the tree's end and the query's begin.
 -- First the length of each body, then the records that the bytes make, then the two parts.
-use mathlib.Core.Bool.{Bool, true, false, cond, _||_}
+use mathlib.Core.Bool.{Bool, cond, _||_}
 use mathlib.Core.List.{List, [], _∷_}
 use Prim.Native.Nat.{ℕ, zero, suc}
 use lib.Dec.{eqb}

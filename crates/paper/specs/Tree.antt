@@ -1,7 +1,7 @@
 -- The tree that the tree records make. Nodes are numbered from 0 in their order; the last is the root.
-use mathlib.Core.Bool.{Bool, true, false, cond}
+use mathlib.Core.Bool.{cond}
 use mathlib.Core.List.{List, [], _∷_}
-use Prim.Native.Nat.{ℕ, zero, suc, _+_, max}
+use Prim.Native.Nat.{ℕ, suc, _+_, max}
 use lib.Dec.{eqb}
 use lib.ListN.{length}
 use Rattle.paper.specs.Lists.{through}

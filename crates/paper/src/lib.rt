@@ -1,5 +1,7 @@
 // The plain types that document 01 speaks of: a record of the table, a set and its head, the two fixed names, the refusals, and
 // an answer for each call. What they mean stands in specs/, section by section; specs/Answers.antt has the number of each refusal.
+ghost use mathlib.Core.Path.{_≡_};
+ghost use Rattle.paper.specs.Answers.{numberOf};
 
 // One entry of the lent table. All zeros is the blank entry.
 #[repr(C)]
@@ -56,6 +58,30 @@ pub enum Refusal {
     UnitTwice,
     RowLength,
     LongInput,
+}
+
+impl Refusal {
+    // The paper's number.
+    pub fn number(self) -> u8
+        ensures { λ n. ⌜ n ≡ numberOf self ⌝ }
+    {
+        match self {
+            Refusal::Tree => 1,
+            Refusal::ManyNodes => 2,
+            Refusal::Query => 3,
+            Refusal::Twice => 4,
+            Refusal::ShortWork => 5,
+            Refusal::ShortTable => 6,
+            Refusal::Place => 7,
+            Refusal::Node => 8,
+            Refusal::RowNumber => 9,
+            Refusal::ShortOutput => 10,
+            Refusal::NotSound => 11,
+            Refusal::UnitTwice => 12,
+            Refusal::RowLength => 13,
+            Refusal::LongInput => 14,
+        }
+    }
 }
 
 pub enum Built {
