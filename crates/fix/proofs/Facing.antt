@@ -20,7 +20,7 @@ use Rattle.paper.specs.Questions.{fixedSet, imageOf, imagesOf, questionWork, un
 use Rattle.paper.specs.Records.{blankEntry, usedOf}
 use Rattle.paper.specs.Refusals.{Reply, Test, answer, fix, isOpen, over, refused, targetAfter, unless, workAfter}
 use Rattle.paper.specs.Sound.{entry}
-use Rattle.laws.specs.QuestionRows.{IsProduct, IsSingle, IsUnion, Sound, UnitTwice}
+use Rattle.laws.specs.QuestionRows.{IsProduct, IsSingle, IsUnion, SetFits, Sound, UnitTwice}
 use Rattle.laws.proofs.OpenPlaces.{open-from-one}
 use Rattle.laws.proofs.QuestionRefusals.{unit-twice-row}
 use Rattle.laws.proofs.Tests.{passes-if-not}
@@ -31,11 +31,11 @@ use Rattle.sound.proofs.Answered.{refused-reply, refused-work, sound-behind, so
 use Rattle.sound.proofs.Overwriting.{cleared-same}
 use Rattle.fix.specs.Face.{Fixes}
 use Rattle.fix.specs.Passes.{Fitting, ImagesDone, ImagesFound, MayImage, MayRecord, Numbered, RecordsDone, RecordsMade, Twice}
-use Rattle.fix.specs.Sets.{Record, Set, at, empty, setAfter, unit}
+use Rattle.fix.specs.Sets.{Record, Set, at, empty, setAfter, setIn, unit}
 use Rattle.fix.specs.States.{State, refusedBy, restarted, started}
 use Rattle.fix.specs.Whole.{Finishes, MayFinish, begun, headAfter}
-use Rattle.fix.proofs.ImageSteps.{at-hand, few-records, length-images}
-use Rattle.fix.proofs.OneRecord.{operand-image}
+use Rattle.fix.proofs.ImageSteps.{at-hand, few-records}
+use Rattle.fix.proofs.Making.{set-number}
 
 restarted-refused : (t : State) → t .refused ≡ true → restarted t ≡ t
 restarted-refused t e = rw e
@@ -155,9 +155,9 @@ module _ (h : Head) (source : List Record) (work : List ℕ) (place n : ℕ) (ta
     room = known .room;
     few = known .sound .few-used;
     place = known .place-there;
-    lower = λ k l e.
-        ⊎-elim (λ c. absurd (omega (arith, c .0)))
-        (⊎-elim (λ c. (c .1, c .2)) (λ c. absurd (omega (arith, c .0))))
+    lower = λ k l other.
+        ⊎-elim (λ c. absurd (other (c .0)))
+        (⊎-elim (λ c. (c .1, c .2)) (λ c. (c .1, c .2)))
         (subst (λ (r : Record). IsSingle r ⊎ (IsUnion (usedOf h source) k r ⊎ IsProduct (usedOf h source) k r)) (used-entry k l)
         (known .sound .records k l .kind));
   }
@@ -284,7 +284,11 @@ module _ (h : Head) (source : List Record) (work : List ℕ) (place n : ℕ) (ta
     done = subst (λ (v : State). RecordsDone source v w target t w′ target′) g e .done refl;
   })
 
-  pub may-finish : (s : State) (w : List ℕ) (target′ : List Record) → WithRecords s w target′ → MayFinish s w
+  -- the root of a sound set is one of its records
+  root-used : Sound h source → (i : ℕ) → h .set ≡ at i → i < h .used
+  root-used good i e = subst (SetFits h (usedOf h source)) e (good .set) .0
+
+  pub may-finish : (s : State) (w : List ℕ) (target′ : List Record) → WithRecords s w target′ → MayFinish s h w
   may-finish s w target′ (inl (known, same)) = record {
     room = known .room;
     fitted = λ e. absurd (true≢false (sym (known .refuses) ∙ e));
@@ -294,16 +298,16 @@ module _ (h : Head) (source : List Record) (work : List ℕ) (place n : ℕ) (ta
     fitted = λ _. record {
       place = omega (arith, known .done .place, known .fixable .place-there);
       made = omega (arith, known .done .made, few, known .fixable .sound .few-used);
-      sets = record {
-        room = omega (arith, known .done .used, known .fixable .room);
-        sets = λ i l. omega (
+      image = λ i e. (
+        omega (arith, root-used (known .fixable .sound) i e, known .fixable .room),
+        omega (
           arith,
-          known .numbered i (omega (arith, known .done .used)),
+          known .numbered i (root-used (known .fixable .sound) i e),
           at-hand (place - 1) n source (h .used) there i,
           few,
           known .fixable .sound .few-used,
-        );
-      };
+        ),
+      );
     };
   }
     where
@@ -314,11 +318,10 @@ module _ (h : Head) (source : List Record) (work : List ℕ) (place n : ℕ) (ta
       few = few-records (place - 1) n source (h .used) there
 
   -- ---- the answer
-  set-right : (w : List ℕ) → h .used ≤ length source → Numbered source first w → (x : Set) → setAfter w (h .used) x ≡ imageOf images x
-  set-right w there numbered empty = refl
-  set-right w there numbered unit = refl
-  set-right w there numbered (at i) =
-      operand-image images (h .used) w (length-images (place - 1) n source (h .used) there) numbered i
+  set-right : (w : List ℕ) → Numbered source first w → (x : Set) → ((i : ℕ) → x ≡ at i → i < h .used) → setAfter w x ≡ imageOf images x
+  set-right w numbered empty below = refl
+  set-right w numbered unit below = refl
+  set-right w numbered (at i) below = ap setIn (numbered i (below i refl)) ∙ set-number (getD images i empty)
 
   pub faces : (s : State) (w : List ℕ) (target′ : List Record) (r : Fixed) (w′ : List ℕ) → WithRecords s w target′ → Finishes s h w r w′
       → Fixes h source work place n target r w′ target′
@@ -347,5 +350,5 @@ module _ (h : Head) (source : List Record) (work : List ℕ) (place n : ℕ) (ta
         set = new-set j;
       }
         where
-          new-set : setAfter w (s .used) (h .set) ≡ imageOf images (h .set)
-          new-set = ap (λ (k : ℕ). setAfter w k (h .set)) (known .done .used) ∙ set-right w (known .fixable .sound .used-there) (known .numbered) (h .set)
+          new-set : setAfter w (h .set) ≡ imageOf images (h .set)
+          new-set = set-right w (known .numbered) (h .set) (root-used (known .fixable .sound))

@@ -1,5 +1,5 @@
 -- The images of the first k records of a source, record by record. First what making an image adds to the new table; then one record more,
--- that earlier images stay, and that each is at hand: empty, unit or a record of the new table.
+-- that earlier images stay, and that each is at hand: empty, unit or a record of the new table. Last, how many records are new.
 use mathlib.Core.Bool.{Bool, _&&_, cond, false, not, true}
 use mathlib.Core.List.{List, [], _∷_, _++_}
 use mathlib.Core.Logic.{⊎-elim}
@@ -18,20 +18,21 @@ use Rattle.laws.proofs.Shaped.{last-or}
 use Rattle.fix.specs.Sets.{Record, Set, at, empty, setNumber, unit}
 
 -- ---- what is made from a table
--- at most one record more, and a set at hand
+-- at most one record more, and a set at hand; none where that set is not the record behind the table
 record Adds (table : List Record) (z : List Record × Set) : Type 0 where
   grows : length table ≤ length (z .0)
   few : length (z .0) ≤ length table + 1
   at-hand : setNumber (z .1) ≤ length (z .0) + 1
+  same : (setNumber (z .1) ≡ length table + 2 → ⊥) → z .0 ≡ table
 
 module _ (table : List Record) where
   adds-none : (e : Set) → setNumber e ≤ length table + 1 → Adds table (table, e)
-  adds-none e h = record { grows = omega arith; few = omega arith; at-hand = h }
+  adds-none e h = record { grows = omega arith; few = omega arith; at-hand = h; same = λ _. refl }
 
   adds-record : (r : Record) → Adds table (newRecord r table)
   adds-record r =
       let long = length-append table (r ∷ []) in
-      record { grows = omega arith; few = omega arith; at-hand = omega arith }
+      record { grows = omega arith; few = omega arith; at-hand = omega arith; same = λ other. absurd (other (omega arith)) }
 
   adds-single : (n b : ℕ) → Adds table (singleRecord n b table)
   adds-single n b = go (eqb b 0)
@@ -105,7 +106,7 @@ module _ (i n : ℕ) (source : List Record) where
     pub images-next : images (suc k) ≡ images k ++ ((imageAfter k) .1 ∷ [])
     images-next = ap (λ (z : List Record × List Set). z .1) one-step
 
-  pub length-images : (k : ℕ) → k ≤ length source → length (images k) ≡ k
+  length-images : (k : ℕ) → k ≤ length source → length (images k) ≡ k
   length-images zero l = refl
   length-images (suc k) l =
       omega (
@@ -156,3 +157,10 @@ module _ (i n : ℕ) (source : List Record) where
   few-records (suc k) l =
       let step = adds-image (made k) i n (images k) (entry source k) (at-hand k (omega arith)) in
       omega (arith, ap length (records-next k (omega arith)), step .few, few-records k (omega arith))
+
+  -- a record whose image is not the next new record makes none
+  pub none-new : (k : ℕ) → k < length source → (setNumber (getD (images (suc k)) k empty) ≡ length (made k) + 2 → ⊥) → made (suc k) ≡ made k
+  none-new k l other = records-next k l ∙ step .same (λ e. other (ap setNumber (last-image k l) ∙ e))
+    where
+      step : Adds (made k) (imageAfter k)
+      step = adds-image (made k) i n (images k) (entry source k) (at-hand k (omega arith))

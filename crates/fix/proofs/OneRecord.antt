@@ -1,37 +1,28 @@
 -- One record of the source, in either pass: what stands before it is what the turn asks for, and what the turn makes is what comes next.
 -- s is the state before the first record and t the one before record `t .at`, with the images of the records before it in the work.
-use mathlib.Core.Bool.{Bool, _&&_, cond, false, false≢true, true}
+use mathlib.Core.Bool.{Bool, _&&_, false, false≢true, true}
 use mathlib.Core.List.{List, _++_}
 use mathlib.Core.Path.{_∙_, _≡_, ap, ap₂, refl, sym}
 use Prim.Native.Nat.{_+_, _-_, _<_, _≤_, ℕ}
 use native.Mathlib.Numerals.{add-one}
 use native.Mathlib.Omega.{arith}
-use borrow.Author.Tests.{eq-eqb, eqb-true, ltb-false, ltb-true}
+use borrow.Author.Tests.{eq-eqb, eqb-false, eqb-true, ne-eqb}
 use lib.Dec.{eqb, ltb}
-use lib.ListN.{List·getD-eq-default, getD, length, length-append}
+use lib.ListN.{getD, length, length-append}
 use Rattle.paper.specs.Questions.{isUnit}
 use Rattle.paper.specs.Sound.{entry}
 use Rattle.laws.proofs.Lists.{both-true}
 use Rattle.fix.specs.Sets.{Image, Makes, Record, Set, at, empty, imageWith, newIn, operandIn, setIn, setNumber, unit}
 use Rattle.fix.specs.States.{State, passed, started}
-use Rattle.fix.specs.Turns.{Turning, imageAt, leftIn, rightIn, twiceAt}
+use Rattle.fix.specs.Turns.{Turning, imageAt, leftIn, rightIn, twiceIn}
 use Rattle.fix.specs.Passes.{Fitting, Twice, imagesTo, newRecords}
-use Rattle.fix.proofs.ImageSteps.{at-hand, few-records, image-stays, imageAfter, last-image, length-images, records-next}
-use Rattle.fix.proofs.Making.{length-new, set-number}
+use Rattle.fix.proofs.ImageSteps.{at-hand, few-records, image-stays, imageAfter, last-image, records-next}
+use Rattle.fix.proofs.Making.{set-number}
 
 unit-is : (e : Set) → isUnit e ≡ true → e ≡ unit
 unit-is empty h = absurd (false≢true h)
 unit-is unit h = refl
 unit-is (at i) h = absurd (false≢true h)
-
--- a number of the work is that of an image, or of empty where none of the first k stands there
-pub operand-image : (images : List Set) (k : ℕ) (work : List ℕ) → length images ≡ k
-    → ((i : ℕ) → i < k → getD work i 0 ≡ setNumber (getD images i empty)) → (j : ℕ) → setIn (operandIn work k j) ≡ getD images j empty
-operand-image images k work long has j = go (ltb j k) refl
-  where
-    go : (c : Bool) → ltb j k ≡ c → setIn (cond c (getD work j 0) 0) ≡ getD images j empty
-    go true e = ap setIn (has j (ltb-true j k e)) ∙ set-number (getD images j empty)
-    go false e = sym (List·getD-eq-default images empty (omega (arith, long, ltb-false j k e)))
 
 -- t has passed the records before `t .at`
 pub record Standing (source : List Record) (s t : State) : Type 0 where
@@ -79,7 +70,7 @@ module _ (source : List Record) (s t : State) (first work : List ℕ) (fit : Fit
   below : k < length source
   below = omega (arith, fit .there)
 
-  pub turning : Turning t work
+  pub turning : Turning t r work
   turning = record {
     left = omega (arith, stand .used);
     few = omega (arith, stand .used, fit .few);
@@ -87,40 +78,58 @@ module _ (source : List Record) (s t : State) (first work : List ℕ) (fit : Fit
     made = omega (arith, stand .made, few-records p (s .node) source k (omega (arith, below)));
     place = omega (arith, stand .place, fit .place);
     sets = λ i l. omega (arith, stand .made, has i l, at-hand p (s .node) source k (omega (arith, below)) i);
+    lower = fit .lower k left;
   }
 
   -- ---- the operands
-  operand-is : (j : ℕ) → setIn (operandIn work k j) ≡ getD (imagesTo s source k) j empty
-  operand-is = operand-image (imagesTo s source k) k work (length-images p (s .node) source k (omega (arith, below))) has
+  -- where the record has operands, their images stand in the work
+  operand-is : (r .kind ≡ 1 → ⊥) → (j : ℕ) → j < k → setIn (operandIn work (r .kind) j) ≡ getD (imagesTo s source k) j empty
+  operand-is other j l = rw (ne-eqb (r .kind) 1 other) (ap setIn (has j l) ∙ set-number (getD (imagesTo s source k) j empty))
 
   -- the image of an operand is the one that it has in the end
-  in-the-end : (j : ℕ) → j < k → setIn (operandIn work k j) ≡ getD (imagesTo s source (s .used)) j empty
-  in-the-end j l = operand-is j ∙ sym (image-stays p (s .node) source (s .used) k j (omega arith) (fit .there) l)
+  in-the-end : (r .kind ≡ 1 → ⊥) → (j : ℕ) → j < k → setIn (operandIn work (r .kind) j) ≡ getD (imagesTo s source (s .used)) j empty
+  in-the-end other j l = operand-is other j l ∙ sym (image-stays p (s .node) source (s .used) k j (omega arith) (fit .there) l)
 
   -- ---- a union whose operands have both become unit
-  pub is-twice : twiceAt t r work ≡ true → Twice source s k
+  pub is-twice : twiceIn r work ≡ true → Twice source s k
   is-twice e =
-      let (kind, both) = both-true (eqb (r .kind) 2) (isUnit (leftIn t r work) && isUnit (rightIn t r work)) e in
-      let (first, second) = both-true (isUnit (leftIn t r work)) (isUnit (rightIn t r work)) both in
-      let lower = fit .lower k left (eqb-true (r .kind) 2 kind) in
+      let (first, more) = both-true (isUnit (leftIn r work)) (isUnit (rightIn r work) && eqb (r .kind) 2) e in
+      let (second, kind) = both-true (isUnit (rightIn r work)) (eqb (r .kind) 2) more in
+      let union : r .kind ≡ 2 = eqb-true (r .kind) 2 kind in
+      let other : r .kind ≡ 1 → ⊥ = λ single. omega arith in
+      let lower = fit .lower k left other in
       record {
         used = left;
-        union = eqb-true (r .kind) 2 kind;
-        left = sym (in-the-end (r .left) (lower .0)) ∙ unit-is (leftIn t r work) first;
-        right = sym (in-the-end (r .right) (lower .1)) ∙ unit-is (rightIn t r work) second;
+        union = union;
+        left = sym (in-the-end other (r .left) (lower .0)) ∙ unit-is (leftIn r work) first;
+        right = sym (in-the-end other (r .right) (lower .1)) ∙ unit-is (rightIn r work) second;
       }
 
-  pub twice-is : Twice source s k → twiceAt t r work ≡ true
+  pub twice-is : Twice source s k → twiceIn r work ≡ true
   twice-is u =
-      let lower = fit .lower k left (u .union) in
-      rw (eq-eqb (r .kind) 2 (u .union), in-the-end (r .left) (lower .0) ∙ u .left, in-the-end (r .right) (lower .1) ∙ u .right)
+      let other : r .kind ≡ 1 → ⊥ = λ single. omega (arith, u .union) in
+      let lower = fit .lower k left other in
+      rw (in-the-end other (r .left) (lower .0) ∙ u .left, in-the-end other (r .right) (lower .1) ∙ u .right, eq-eqb (r .kind) 2 (u .union))
 
   -- ---- its image
+  -- it is made from the sets in the work; that of a single needs none
+  image-in : imageAfter p (s .node) source k ≡ imageWith p (s .node) r (leftIn r work) (rightIn r work) (newRecords s source k)
+  image-in = go (eqb (r .kind) 1) refl
+    where
+      go : (c : Bool) → eqb (r .kind) 1 ≡ c
+          → imageAfter p (s .node) source k ≡ imageWith p (s .node) r (leftIn r work) (rightIn r work) (newRecords s source k)
+      go true e = rw e
+      go false e =
+          let other = eqb-false (r .kind) 1 e in
+          let lower = fit .lower k left other in
+          ap₂ {C = List Record × Set} (λ u v. imageWith p (s .node) r u v (newRecords s source k))
+          (sym (operand-is other (r .left) (lower .0))) (sym (operand-is other (r .right) (lower .1)))
+
   module _ (x : Image) (makes : Makes (imageAt t r work) (t .made) x) where
     made-is : imageAfter p (s .node) source k ≡ (newRecords s source k ++ newIn x, setIn (x .set))
     made-is =
-        ap₂ {C = List Record × Set} (λ u v. imageWith p (s .node) r u v (newRecords s source k)) (sym (operand-is (r .left))) (sym (operand-is (r .right)))
-        ∙ ap₂ {C = List Record × Set} (λ (q m : ℕ). imageWith (q - 1) m r (leftIn t r work) (rightIn t r work) (newRecords s source k))
+        image-in
+        ∙ ap₂ {C = List Record × Set} (λ (q m : ℕ). imageWith (q - 1) m r (leftIn r work) (rightIn r work) (newRecords s source k))
         (sym (stand .place)) (sym (stand .node))
         ∙ makes .makes (newRecords s source k) (sym (stand .made))
 
@@ -136,12 +145,14 @@ module _ (source : List Record) (s t : State) (first work : List ℕ) (fit : Fit
         ∙ last-image p (s .node) source k below
         ∙ ap (λ (z : List Record × Set). z .1) made-is
 
-    pub stands-next : Standing source s (passed t (x .count))
-    stands-next = record {
-      used = stand .used;
-      place = stand .place;
-      node = stand .node;
-      refusal = stand .refusal;
-      at-most = omega arith;
-      made = omega (arith, stand .made, ap length next-records, length-append (newRecords s source k) (newIn x), length-new x (makes .few));
-    }
+  -- ---- the state after it
+  pub stands-next : (count : ℕ) (new : List Record) → length new ≡ count → newRecords s source (k + 1) ≡ newRecords s source k ++ new
+      → Standing source s (passed t count)
+  stands-next count new many grown = record {
+    used = stand .used;
+    place = stand .place;
+    node = stand .node;
+    refusal = stand .refusal;
+    at-most = omega arith;
+    made = omega (arith, stand .made, ap length grown, length-append (newRecords s source k) new);
+  }

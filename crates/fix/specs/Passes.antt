@@ -17,13 +17,13 @@ newRecords t source k = (imagesOf (t .place - 1) (t .node) (take k source)) .0
 abbrev pub imagesTo : State → List Record → ℕ → List Set
 imagesTo t source k = (imagesOf (t .place - 1) (t .node) (take k source)) .1
 
--- the source has the records, each with a number of the work; a union's operands have lower numbers
+-- the source has the records, each with a number of the work; the operands of one that is not a single have lower numbers
 pub record Fitting (source : List Record) (t : State) (work : List ℕ) : Type 0 where
   pub there : t .used ≤ length source
   pub room : t .used ≤ length work
   pub few : t .used ≤ 60000
   pub place : 1 ≤ t .place
-  pub lower : (k : ℕ) → k < t .used → entry source k .kind ≡ 2 → (entry source k .left < k) × (entry source k .right < k)
+  pub lower : (k : ℕ) → k < t .used → (entry source k .kind ≡ 1 → ⊥) → (entry source k .left < k) × (entry source k .right < k)
 
 -- record k is a union, and both its operands become unit
 pub record Twice (source : List Record) (t : State) (k : ℕ) : Type 0 where

@@ -3,7 +3,7 @@ use mathlib.Core.Bool.{cond, not, _&&_}
 use mathlib.Core.List.{List, [], _∷_, _++_}
 use mathlib.Core.Path.{_≡_}
 use Prim.Native.Nat.{ℕ, zero, suc, _+_, _≤_}
-use lib.Dec.{eqb, ltb}
+use lib.Dec.{eqb}
 use lib.ListN.{getD, length}
 pub use Rattle.paper.specs.declared.Record.{Record}
 pub use Rattle.paper.specs.declared.Set.{Set}
@@ -24,15 +24,15 @@ setNumber empty = 0
 setNumber unit = 1
 setNumber (at i) = suc (suc i)
 
--- the number in the work for record i, if it is one of the first k; else empty
+-- the number in the work for an operand of a record of this kind; empty for a single, which has none
 abbrev pub operandIn : List ℕ → ℕ → ℕ → ℕ
-operandIn work k i = cond (ltb i k) (getD work i 0) 0
+operandIn work kind i = cond (eqb kind 1) 0 (getD work i 0)
 
 -- the image of a set whose records' images stand in the work
-abbrev pub setAfter : List ℕ → ℕ → Set → Set
-setAfter work used empty = empty
-setAfter work used unit = unit
-setAfter work used (at i) = setIn (operandIn work used i)
+abbrev pub setAfter : List ℕ → Set → Set
+setAfter work empty = empty
+setAfter work unit = unit
+setAfter work (at i) = setIn (getD work i 0)
 
 -- ---- one record
 -- the paper's image of a record, given the sets that its operands have become

@@ -13,7 +13,7 @@ use Rattle.paper.specs.Questions.{without}
 use Rattle.paper.specs.Refusals.{isOpen, over}
 use Rattle.sound.specs.declared.Weighed.{Weighed}
 use Rattle.sound.specs.declared.Weighed.the-variants as WeighedIs
-use Rattle.fix.specs.Sets.{setAfter}
+use Rattle.fix.specs.Sets.{Set, at, setAfter}
 use Rattle.fix.specs.States.{State, started, refusedBy}
 
 -- refused by `weigh`, or with 7, 8 or 6, or before the first record
@@ -27,20 +27,19 @@ begun WeighedIs.Sound h place node entries =
 begun (WeighedIs.Refused why) h place node entries = refusedBy 0 why
 
 -- ---- the end
--- the work has a set for each of the records
-pub record SetsIn (work : List ℕ) (used : ℕ) : Type 0 where
-  pub room : used ≤ length work
-  pub sets : (i : ℕ) → i < used → getD work i 0 ≤ 60001
+-- if the set is a record, its image stands in the work
+abbrev pub ImageIn : List ℕ → Set → Type 0
+ImageIn work set = (i : ℕ) → set ≡ at i → (i < length work) × (getD work i 0 ≤ 60001)
 
--- of an answer: the numbers of the head fit, and so do those of the sets
-pub record Fitted (t : State) (work : List ℕ) : Type 0 where
+-- of an answer: the numbers of the head fit, and so does that of its set
+pub record Fitted (t : State) (h : Head) (work : List ℕ) : Type 0 where
   pub place : 1 ≤ t .place
   pub made : t .made ≤ 60000
-  pub sets : SetsIn work (t .used)
+  pub image : ImageIn work (h .set)
 
-pub record MayFinish (t : State) (work : List ℕ) : Type 0 where
+pub record MayFinish (t : State) (h : Head) (work : List ℕ) : Type 0 where
   pub room : t .used ≤ length work
-  pub fitted : t .refused ≡ false → Fitted t work
+  pub fitted : t .refused ≡ false → Fitted t h work
 
 -- the new head
 abbrev pub headAfter : State → Head → List ℕ → Head
@@ -49,7 +48,7 @@ headAfter t h work = record {
   arity = h .arity;
   places = without (h .places) (t .place - 1);
   used = t .made;
-  set = setAfter work (t .used) (h .set);
+  set = setAfter work (h .set);
 }
 
 abbrev pub answerAfter : State → Head → List ℕ → Fixed

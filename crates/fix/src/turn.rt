@@ -11,28 +11,26 @@ use crate::state::pass;
 use crate::state::stop;
 use paper::Record;
 
-// The image of a record that stands before record k; empty for any other. (A single's operands are zero, and nothing stands before
-// record 0.)
-pub(crate) fn operand(work: &[u64], k: usize, number: u16) -> u64
-    requires { ⌜ k ≤ length (now work) ⌝ }
-    ensures { λ r. ⌜ r ≡ operandIn (now (work .entry)) k number ⌝ }
+// What an operand of a record of this kind has become; empty for a single, which has none.
+fn operand(work: &[u64], kind: u16, number: u16) -> u64
+    requires { ⌜ ((kind ≡ 1 → ⊥) → number < length (now work)) ⌝ }
+    ensures { λ r. ⌜ r ≡ operandIn (now (work .entry)) kind number ⌝ }
 {
-    let i = number as usize;
-    if i < k {
-        return work[i];
+    if kind == 1 {
+        return 0;
     }
-    0
+    work[number as usize]
 }
 
 // The image of the next record goes into its number of the work. A union of unit and unit ends the pass.
 pub(crate) fn image_turn(t: State, r: Record, work: &mut [u64]) -> State
-    requires { ⌜ Turning t (now work) ⌝ }
+    requires { ⌜ Turning t r (now work) ⌝ }
     ensures { λ s. ⌜ Imaged t r (now (work .entry)) s (now (work .exit)) ⌝ }
 {
     let at = t.at;
-    let left = operand(&*work, at, r.left);
-    let right = operand(&*work, at, r.right);
-    if r.kind == 2 && left == 1 && right == 1 {
+    let left = operand(&*work, r.kind, r.left);
+    let right = operand(&*work, r.kind, r.right);
+    if left == 1 && right == 1 && r.kind == 2 {
         return stop(t);
     }
     let image = image_of(r, t.place, t.node, left, right, t.made);
@@ -52,14 +50,18 @@ fn put(batch: &mut [u16], new: Record)
     batch[4] = new.flag;
 }
 
-// The new record of the next one, if there is one, goes into the batch. The work has the images of all.
+// The new record of the next one, if there is one, goes into the batch. The work has the images of all: where a record makes a new one,
+// its image is the next of the new table.
 pub(crate) fn record_turn(t: State, r: Record, work: &mut [u64], batch: &mut [u16]) -> State
-    requires { ⌜ Turning t (now work) × (5 ≤ length (now batch)) ⌝ }
+    requires { ⌜ Turning t r (now work) × (5 ≤ length (now batch)) ⌝ }
     ensures { λ s. ⌜ Recorded t r (now (work .entry)) s (now (work .exit)) (now (batch .exit)) ⌝ }
 {
     let at = t.at;
-    let left = operand(&*work, at, r.left);
-    let right = operand(&*work, at, r.right);
+    if work[at] != t.made as u64 + 2 {
+        return pass(t, 0);
+    }
+    let left = operand(&*work, r.kind, r.left);
+    let right = operand(&*work, r.kind, r.right);
     let image = image_of(r, t.place, t.node, left, right, t.made);
     let new = image.new;
     put(&mut *batch, new);

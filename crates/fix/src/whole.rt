@@ -3,9 +3,8 @@ ghost use mathlib.Core.Path.{_≡_};
 ghost use Prim.Native.Nat.{_≤_};
 ghost use Rattle.fix.specs.Sets.{setIn, setAfter};
 ghost use Rattle.fix.specs.States.{started, refusedBy, restarted};
-ghost use Rattle.fix.specs.Whole.{begun, SetsIn, MayFinish, answerAfter, Finishes};
+ghost use Rattle.fix.specs.Whole.{begun, ImageIn, MayFinish, answerAfter, Finishes};
 use crate::state::State;
-use crate::turn::operand;
 use paper::Fixed;
 use paper::Head;
 use paper::Refusal;
@@ -98,20 +97,20 @@ fn set_of(number: u64) -> Set
 }
 
 // What the set of the head becomes.
-fn new_set(set: Set, work: &[u64], used: usize) -> Set
-    requires { ⌜ SetsIn (now work) used ⌝ }
-    ensures { λ r. ⌜ r ≡ setAfter (now (work .entry)) used set ⌝ }
+fn new_set(set: Set, work: &[u64]) -> Set
+    requires { ⌜ ImageIn (now work) set ⌝ }
+    ensures { λ r. ⌜ r ≡ setAfter (now (work .entry)) set ⌝ }
 {
     match set {
         Set::Empty => Set::Empty,
         Set::Unit => Set::Unit,
-        Set::Record(i) => set_of(operand(work, used, i)),
+        Set::Record(i) => set_of(work[i as usize]),
     }
 }
 
 // The new set, or the refusal.
 fn answer(t: State, head: Head, work: &[u64]) -> Fixed
-    requires { ⌜ MayFinish t (now work) ⌝ }
+    requires { ⌜ MayFinish t head (now work) ⌝ }
     ensures { λ r. ⌜ r ≡ answerAfter t head (now (work .entry)) ⌝ }
 {
     if t.refused {
@@ -119,7 +118,7 @@ fn answer(t: State, head: Head, work: &[u64]) -> Fixed
         return Fixed::Refused(why);
     }
     let old = head.set;
-    let set = new_set(old, work, t.used);
+    let set = new_set(old, work);
     let places = without_place(head.places, (t.place - 1) as usize);
     Fixed::Set(Head {
         nodes: head.nodes,
@@ -132,7 +131,7 @@ fn answer(t: State, head: Head, work: &[u64]) -> Fixed
 
 // The answer; and the work is cleared.
 pub(crate) fn finish(t: State, head: Head, work: &mut [u64]) -> Fixed
-    requires { ⌜ MayFinish t (now work) ⌝ }
+    requires { ⌜ MayFinish t head (now work) ⌝ }
     ensures { λ r. ⌜ Finishes t head (now (work .entry)) r (now (work .exit)) ⌝ }
 {
     let fixed = answer(t, head, &*work);

@@ -234,7 +234,7 @@ module _ {M : Type 1} (𝓤 : URA M) (H : Heap 𝓤) (A : Atoms 𝓤) (W : Given
       tt,
     )
 
-    goes-finish : Good head h → (e : State) → Good state e → (w : List ℕ) → MayFinish e w → (ν : ℕ) (δ : GName)
+    goes-finish : Good head h → (e : State) → Good state e → (w : List ℕ) → MayFinish e h w → (ν : ℕ) (δ : GName)
         → ent 𝓤 (⋆ 𝓤 H A (‵ (flft (ν ∷ []) fullShare) ∷ ‵ (Mine u64 bʷ oʷ (ν ∷ []) δ (length work) w) ∷ [])) (Finish .pre (to-finish e w ν δ))
     goes-finish head-good e good w ok ν δ =
         qed W (‵ (flft (ν ∷ []) fullShare) ∷ ‵ (Mine u64 bʷ oʷ (ν ∷ []) δ (length work) w) ∷ []) ∵

@@ -19,13 +19,13 @@ use Rattle.laws.proofs.Lists.{which}
 use Rattle.laws.proofs.Shaped.{last-or}
 use Rattle.paper.specs.Sound.{entry}
 use Rattle.table.proofs.Asking.{Law, Next, asking-meets}
-use Rattle.fix.specs.Sets.{Image, Makes, Record, empty, setNumber}
+use Rattle.fix.specs.Sets.{Image, Makes, Record, empty, newIn, setNumber}
 use Rattle.fix.specs.States.{State, passed, started, stopped}
-use Rattle.fix.specs.Turns.{Imaged, Turning, imageAt, twiceAt}
+use Rattle.fix.specs.Turns.{Imaged, Turning, imageAt, twiceIn}
 use Rattle.fix.specs.Passes.{Fitting, ImagesDone, ImagesFound, MayImage, Twice, imagesTo}
 use Rattle.fix.proofs.ImageSteps.{image-stays}
-use Rattle.fix.proofs.Making.{number-set}
-use Rattle.fix.proofs.OneRecord.{HasImages, Standing, first-at, first-going, is-twice, next-image, stands-first, stands-next, turning, twice-is}
+use Rattle.fix.proofs.Making.{length-new, number-set}
+use Rattle.fix.proofs.OneRecord.{HasImages, Standing, first-at, first-going, is-twice, next-image, next-records, stands-first, stands-next, turning, twice-is}
 use Rattle.fix.proofs.StateShape.{at-field, shape}
 use Rattle.fix.proofs.turn.image_turn.Symbol as turn-def
 use Rattle.fix.proofs.turn.image_turn.Symbol.{name as #image-turn}
@@ -78,7 +78,7 @@ module _ (source : List Record) (s : State) (first : List ℕ) (t : State) (work
   left = ltb-true (t .at) (s .used) (sym (live .goes running) ∙ going)
 
   module _ (long : length work ≡ length first) where
-    asks : (t .at < length source) × Turning t work
+    asks : (t .at < length source) × Turning t (entry source (t .at)) work
     asks = (omega (arith, left, live .fit .there), turning source s t first work (live .fit) long (live .stand) (live .has) left)
 
     -- ---- after it
@@ -86,7 +86,7 @@ module _ (source : List Record) (s : State) (first : List ℕ) (t : State) (work
     r = entry source (t .at)
 
     -- it stops at a union that has unit twice
-    halted : twiceAt t r work ≡ true → SoFar source s first (stopped t) work
+    halted : twiceIn r work ≡ true → SoFar source s first (stopped t) work
     halted e = record {
       fit = live .fit;
       stand = record {
@@ -128,10 +128,12 @@ module _ (source : List Record) (s : State) (first : List ℕ) (t : State) (work
               ∙ sym (number-set (x .set))
               ∙ ap setNumber (sym (next-image source s t first work (live .fit) long (live .stand) (live .has) left x makes))
 
-      onward : twiceAt t r work ≡ false → SoFar source s first (passed t (x .count)) work′
+      onward : twiceIn r work ≡ false → SoFar source s first (passed t (x .count)) work′
       onward e = record {
         fit = live .fit;
-        stand = stands-next source s t first work (live .fit) long (live .stand) (live .has) left x makes;
+        stand =
+            stands-next source s t first work (live .fit) long (live .stand) (live .has) left (x .count) (newIn x) (length-new x (makes .few))
+            (next-records source s t first work (live .fit) long (live .stand) (live .has) left x makes);
         has = has-next;
         rest = drop-set-lt (s .used) work (t .at) (x .set) left ∙ live .rest;
         none = λ k l. ⊎-elim (live .none k) (λ same u. true≢false (sym (again (subst (Twice source s) same u)) ∙ e)) (last-or k (t .at) l);
@@ -139,7 +141,7 @@ module _ (source : List Record) (s : State) (first : List ℕ) (t : State) (work
         stops = λ f. absurd (true≢false (sym f ∙ running));
       }
         where
-          again : Twice source s (t .at) → twiceAt t r work ≡ true
+          again : Twice source s (t .at) → twiceIn r work ≡ true
           again = twice-is source s t first work (live .fit) long (live .stand) (live .has) left
 
 -- what falls: the records left, and one more while the pass goes on
@@ -159,7 +161,7 @@ none-left t e = rw e (omega arith)
 step : (source : List Record) (s : State) (first : List ℕ) (t : State) (work : List ℕ) → Before source s first t work → t .going ≡ true
     → length work ≡ length first → (t′ : State) (work′ : List ℕ) → Imaged t (entry source (t .at)) work t′ work′
     → Before source s first t′ work′ × (turnsLeft t′ < turnsLeft t)
-step source s first t work before going long t′ work′ told = ⊎-elim halts goes (which (twiceAt t (entry source (t .at)) work))
+step source s first t work before going long t′ work′ told = ⊎-elim halts goes (which (twiceIn (entry source (t .at)) work))
   where
     now : SoFar source s first t work
     now = live source s first t work before going
@@ -177,12 +179,12 @@ step source s first t work before going long t′ work′ told = ⊎-elim halts 
     come : {u : State} {w : List ℕ} → SoFar source s first u w → Before source s first u w
     come so-far = record { idle = λ e. absurd (true≢false (sym e ∙ begun)); live = λ _. so-far }
 
-    halts : twiceAt t (entry source (t .at)) work ≡ true → Next t′ work′
+    halts : twiceIn (entry source (t .at)) work ≡ true → Next t′ work′
     halts e =
         subst₂ Next (sym (told .stops e .0)) (sym (told .stops e .1))
         (come (halted source s first t work before going long e), none-left t going)
 
-    goes : twiceAt t (entry source (t .at)) work ≡ false → Next t′ work′
+    goes : twiceIn (entry source (t .at)) work ≡ false → Next t′ work′
     goes e =
         let turn = told .goes e in
         subst₂ Next (sym (turn .state)) (sym (turn .written))
@@ -213,7 +215,7 @@ stops source s first t work before ended = record { idle = λ e. (before .idle e
 
 abbrev law : Law u64 shape at-field
 law = record {
-  Ask = λ t r w. Turning t w;
+  Ask = λ t r w. Turning t r w;
   Tell = λ t r w t′ w′. Imaged t r w t′ w′;
   Ready = λ source x. MayImage source (x .state) (x .work);
   Asked = λ source x y. ImagesDone source (x .state) (x .work) (y .state) (y .work);

@@ -1,13 +1,14 @@
 -- `fix::records` meets its contract: an instance of the law of a loop that copies (`table`). What stands here is of plain values.
 -- Assumes nothing.
 use mathlib.Core.Bool.{false, true, true≢false}
-use mathlib.Core.List.{List, _++_}
+use mathlib.Core.List.{List, _++_, append-nil}
 use mathlib.Core.Logic.{⊎-elim}
 use mathlib.Core.Path.{_∙_, _≡_, ap, refl, subst, sym}
-use Prim.Native.Nat.{_+_, _-_, _<_, _≤_, ℕ}
+use Prim.Native.Nat.{_+_, _-_, _<_, _≤_, suc, ℕ}
+use native.Mathlib.Numerals.{add-one}
 use native.Mathlib.Omega.{arith}
-use borrow.Author.Tests.{ltb-false, ltb-true}
-use lib.Dec.{ltb}
+use borrow.Author.Tests.{eqb-false, eqb-true, ltb-false, ltb-true}
+use lib.Dec.{eqb, ltb}
 use lib.ListN.{getD, length}
 use mir.Syntax.{tyInt, w64}
 use contract.Running.{givenOf, tables, tablesOf}
@@ -17,17 +18,18 @@ use denote.Triple.Table.{cited, entered}
 use Rattle.laws.proofs.Lists.{which}
 use Rattle.paper.specs.Refusals.{over}
 use Rattle.paper.specs.Sound.{entry}
-use Rattle.table.specs.Batch.{stored}
+use Rattle.table.specs.Batch.{recordsIn, stored}
+use Rattle.table.proofs.Batches.{length-records}
 use Rattle.table.proofs.Copying.{Hand, Law, Next, Store, copying-meets, turned}
 use Rattle.table.proofs.store.Symbol as store-def
 use Rattle.table.proofs.store.Symbol.{name as #table·store}
 use Rattle.table.proofs.store.Met as store-thm
-use Rattle.fix.specs.Sets.{Record, newIn, setNumber}
+use Rattle.fix.specs.Sets.{Record, setNumber}
 use Rattle.fix.specs.States.{State, passed}
-use Rattle.fix.specs.Turns.{Recorded, Turning}
+use Rattle.fix.specs.Turns.{Recorded, Turning, Writes}
 use Rattle.fix.specs.Passes.{Fitting, MayRecord, Numbered, RecordsDone, RecordsMade, newRecords}
 use Rattle.fix.proofs.Behind.{batch-is, stored-behind}
-use Rattle.fix.proofs.ImageSteps.{few-records, image-stays}
+use Rattle.fix.proofs.ImageSteps.{few-records, image-stays, none-new}
 use Rattle.fix.proofs.OneRecord.{HasImages, Standing, first-at, first-going, next-records, stands-first, stands-next, turning}
 use Rattle.fix.proofs.StateShape.{at-field, count-field, from-field, shape}
 use Rattle.fix.proofs.turn.record_turn.Symbol as turn-def
@@ -92,15 +94,18 @@ module _ (source : List Record) (x₀ x : Held) (before : Before source x₀ x) 
   left : t .at < s .used
   left = ltb-true (t .at) (s .used) (sym (live .going) ∙ going)
 
-  -- the images of the records passed are those of the whole pass
-  has : HasImages source s (t .at) (x .work)
-  has i l =
+  -- the images of the first k records are those of the whole pass
+  has-to : (k : ℕ) → k ≤ s .used → HasImages source s k (x .work)
+  has-to k most i l =
       ap (λ (w : List ℕ). getD w i 0) (before .kept)
-      ∙ live .numbered i (omega (arith, l, left))
-      ∙ ap setNumber (image-stays (s .place - 1) (s .node) source (s .used) (t .at) i (omega (arith, left)) (live .fit .there) l)
+      ∙ live .numbered i (omega (arith, l, most))
+      ∙ ap setNumber (image-stays (s .place - 1) (s .node) source (s .used) k i most (live .fit .there) l)
+
+  has : HasImages source s (t .at) (x .work)
+  has = has-to (t .at) (omega (arith, left))
 
   asks : length (x .batch) ≡ length (x₀ .batch)
-      → (t .at < length source) × (Turning t (x .work) × (5 ≤ length (x .batch)))
+      → (t .at < length source) × (Turning t (entry source (t .at)) (x .work) × (5 ≤ length (x .batch)))
   asks long = (
     omega (arith, left, live .fit .there),
     (
@@ -110,42 +115,73 @@ module _ (source : List Record) (x₀ x : Held) (before : Before source x₀ x) 
   )
 
   -- ---- after it
-  module _ (t′ : State) (work′ batch′ : List ℕ) (long : length batch′ ≡ length (x₀ .batch))
-      (turn : Recorded t (entry source (t .at)) (x .work) t′ work′ batch′) where
-    written′ : stored (x .table) (t .made) batch′ (turn .image .count) ≡ over (newRecords s source (t .at + 1)) (x₀ .table)
-    written′ =
-        (λ i. stored (live .written i) (live .stand .made i) batch′ (turn .image .count))
-        ∙ stored-behind new (x₀ .table) batch′ (turn .image .count)
-        (omega (arith, few-records (s .place - 1) (s .node) source (t .at) (omega (arith, left, live .fit .there)), few, left, live .entries))
-        (omega (arith, few, long, before .numbers))
-        ∙ ap (λ (more : List Record). over (new ++ more) (x₀ .table)) (batch-is (turn .image) batch′ few (turn .written))
-        ∙ ap (λ (all : List Record). over all (x₀ .table)) (sym grown)
+  -- the batch has the new records of the turn, of which there are so many
+  record Adding (t′ : State) (batch′ : List ℕ) : Type 0 where
+    count : ℕ
+    few : count ≤ 1
+    state : t′ ≡ passed t count
+    grown : newRecords s source (t .at + 1) ≡ newRecords s source (t .at) ++ recordsIn count batch′
+
+  module _ (t′ : State) (work′ batch′ : List ℕ) (turn : Recorded t (entry source (t .at)) (x .work) t′ work′ batch′) where
+    -- a record whose image is not the next new record makes none
+    skips : (getD (x .work) (t .at) 0 ≡ t .made + 2 → ⊥) → Adding t′ batch′
+    unfolding recordsIn
+    skips other = record {
+      count = 0;
+      few = omega arith;
+      state = turn .skips other;
+      grown = same ∙ sym (append-nil (newRecords s source (t .at)));
+    }
       where
-        new : List Record
-        new = newRecords s source (t .at)
+        same : newRecords s source (t .at + 1) ≡ newRecords s source (t .at)
+        same =
+            ap (newRecords s source) (add-one (t .at))
+            ∙ none-new (s .place - 1) (s .node) source (t .at) (omega (arith, left, live .fit .there))
+            (λ e. other (omega (arith, has-to (suc (t .at)) (omega (arith, left)) (t .at) (omega arith), e, live .stand .made)))
 
-        few : turn .image .count ≤ 1
-        few = turn .makes .few
+    writes : Writes t (entry source (t .at)) (x .work) t′ batch′ → Adding t′ batch′
+    writes one = record {
+      count = one .image .count;
+      few = one .makes .few;
+      state = one .state;
+      grown =
+          next-records source s t (x₀ .work) (x .work) (live .fit) (ap length (before .kept)) (live .stand) has left (one .image) (one .makes)
+          ∙ ap (λ (more : List Record). newRecords s source (t .at) ++ more) (sym (batch-is (one .image) batch′ (one .makes .few) (one .written)));
+    }
 
-        grown : newRecords s source (t .at + 1) ≡ new ++ newIn (turn .image)
-        grown =
-            next-records source s t (x₀ .work) (x .work) (live .fit) (ap length (before .kept)) (live .stand) has left (turn .image) (turn .makes)
+    adding : Adding t′ batch′
+    adding =
+        ⊎-elim (λ e. writes (turn .writes (eqb-true number (t .made + 2) e))) (λ e. skips (eqb-false number (t .made + 2) e))
+        (which (eqb number (t .made + 2)))
+      where
+        number : ℕ
+        number = getD (x .work) (t .at) 0
+
+  module _ (t′ : State) (work′ batch′ : List ℕ) (long : length batch′ ≡ length (x₀ .batch)) (kept : work′ ≡ x .work) (adds : Adding t′ batch′) where
+    written′ : stored (x .table) (t .made) batch′ (adds .count) ≡ over (newRecords s source (t .at + 1)) (x₀ .table)
+    written′ =
+        (λ i. stored (live .written i) (live .stand .made i) batch′ (adds .count))
+        ∙ stored-behind (newRecords s source (t .at)) (x₀ .table) batch′ (adds .count)
+        (omega (arith, few-records (s .place - 1) (s .node) source (t .at) (omega (arith, left, live .fit .there)), adds .few, left, live .entries))
+        (omega (arith, adds .few, long, before .numbers))
+        ∙ ap (λ (all : List Record). over all (x₀ .table)) (sym (adds .grown))
 
     abbrev After : State → Type 0
     After u = Before source x₀ (turned u64 shape from-field count-field (x .table) u work′ batch′) × (u .used - u .at < t .used - t .at)
 
     onward : After t′
-    onward = subst After (sym (turn .state)) (next, omega (arith, left, live .stand .used))
+    onward = subst After (sym (adds .state)) (next, omega (arith, left, live .stand .used))
       where
-        next : Before source x₀ (turned u64 shape from-field count-field (x .table) (passed t (turn .image .count)) work′ batch′)
+        next : Before source x₀ (turned u64 shape from-field count-field (x .table) (passed t (adds .count)) work′ batch′)
         next = record {
           numbers = before .numbers;
-          kept = turn .kept ∙ before .kept;
+          kept = kept ∙ before .kept;
           idle = λ e. absurd (true≢false (sym e ∙ begun));
           live = λ _. record {
             fit = live .fit;
             stand =
-                stands-next source s t (x₀ .work) (x .work) (live .fit) (ap length (before .kept)) (live .stand) has left (turn .image) (turn .makes);
+                stands-next source s t (x₀ .work) (x .work) (live .fit) (ap length (before .kept)) (live .stand) has left (adds .count)
+                (recordsIn (adds .count) batch′) (length-records (adds .count) batch′) (adds .grown);
             numbered = live .numbered;
             entries = live .entries;
             refused = live .refused;
@@ -183,7 +219,7 @@ stops source x₀ x before ended = record {
 
 abbrev law : Law u64 shape at-field from-field count-field
 law = record {
-  Ask = λ t r w b. Turning t w × (5 ≤ length b);
+  Ask = λ t r w b. Turning t r w × (5 ≤ length b);
   Tell = λ t r w b t′ w′ b′. Recorded t r w t′ w′ b′;
   Ready = λ source x. MayRecord source (x .state) (x .work) (x .table) (x .batch);
   Copied = λ source x y. RecordsDone source (x .state) (x .work) (x .table) (y .state) (y .work) (y .table);
@@ -191,7 +227,8 @@ law = record {
   falls = λ source x. x .state .used - x .state .at;
   starts = starts;
   asks = λ source x₀ x long before going. asks source x₀ x before going (long .1 .1);
-  onward = λ source x₀ x t′ w b long long′ before going told. onward source x₀ x before going t′ w b (long′ .1 .1) told;
+  onward = λ source x₀ x t′ w b long long′ before going told.
+      onward source x₀ x before going t′ w b (long′ .1 .1) (told .kept) (adding source x₀ x before going t′ w b told);
   stops = stops;
 }
 

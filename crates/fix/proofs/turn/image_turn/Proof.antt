@@ -1,31 +1,30 @@
 -- `turn::image_turn` puts the image of the next record into the work.
 use mathlib.Core.Bool.{_&&_, false}
 use mathlib.Core.Logic.{⊎-elim}
-use mathlib.Core.Path.{_≡_, subst, sym}
-use Prim.Native.Nat.{_+_, _≤_, ℕ}
-use native.Mathlib.Omega.{arith}
+use mathlib.Core.Path.{_≡_}
 use borrow.Author.Tests.{eq-eqb, ne-eqb}
 use lib.Dec.{eqb}
-use Rattle.fix.proofs.Turning.{goes, operand-within, stops}
+use Rattle.fix.proofs.Turning.{goes, left-there, may-make, right-there, stops}
 use borrow.Author.Needs.{needs}
 use Rattle.fix.proofs.turn.image_turn.Statement.{statement}
 use Rattle.fix.proofs.turn.image_turn.Tie as tie
 
 -- where the test fails, one of the three fails
 not-twice : (c : tie.Joined1)
-    → eqb (c .before .before .before .before .before .before .before .args .r .kind) 2
-    && (eqb (c .before .before .before .before .operand .result) 1 && eqb (c .before .before .operand2 .result) 1)
+    → eqb (c .before .before .before .operand .result) 1
+    && (eqb (c .before .operand2 .result) 1 && eqb (c .before .before .before .before .before .before .args .r .kind) 2)
     ≡ false
 not-twice c =
-    let kind = c .before .before .before .before .before .before .before .args .r .kind in
-    ⊎-elim (λ w. rw (eq-eqb kind 2 (w .0 .taken), w .1 .taken, w .2 .left))
-    (⊎-elim (λ w. rw (eq-eqb kind 2 (w .0 .taken), w .1 .left)) (λ w. rw (ne-eqb kind 2 (w .left)))) (c .if1 .came)
+    let left = c .before .before .before .operand .result in
+    ⊎-elim (λ w. rw (eq-eqb left 1 (w .0 .taken), w .1 .taken, w .3 .left))
+    (⊎-elim (λ w. rw (eq-eqb left 1 (w .0 .taken), w .1 .left)) (λ w. rw (ne-eqb left 1 (w .left)))) (c .if1 .came)
 
 operand-requires : tie.Need-operand-requires
-operand-requires c κs = search needs
+operand-requires c κs = let start = c .before .before in left-there (start .args .t) (start .args .r) (start .args .work .now) (start .pre)
 
 operand-requires-2 : tie.Need-operand-requires-2
-operand-requires-2 c κs = search needs
+operand-requires-2 c κs =
+    let start = c .before .before .before .before in right-there (start .args .t) (start .args .r) (start .args .work .now) (start .pre)
 
 stop-requires : tie.Need-stop-requires
 stop-requires c κs = search needs
@@ -35,31 +34,22 @@ same-length c = search needs
 
 returns : tie.Need-returns
 returns c =
-    let both = c .before .before in
-    let kind = both .before in
-    let second = kind .before .before in
+    let both = c .before .before .before in
+    let one = both .before in
+    let second = one .before in
     let first = second .before .before in
     let a = first .before .before .before .args in
     stops (a .t) (a .r) (a .work .now) (first .operand .result) (second .operand2 .result) (first .operand .ensures) (second .operand2 .ensures)
-    (rw (eq-eqb (a .r .kind) 2 (kind .if1 .taken), both .if2 .taken, c .before .if3 .taken)) (c .stop .result) (c .stop .ensures)
+    (rw (eq-eqb (first .operand .result) 1 (one .if1 .taken), both .if2 .taken, c .before .if3 .taken)) (c .stop .result) (c .stop .ensures)
 
 image-of-requires : tie.Need-image-of-requires
 image-of-requires c κs =
-    let second = c .before .before in
+    let second = c .before in
     let first = second .before .before in
     let start = first .before .before .before in
     let a = start .args in
-    let room = start .pre in
-    let bound = a .t .made + 1 in (
-      room .place,
-      (
-        omega arith,
-        (
-          (subst (λ (n : ℕ). n ≤ bound) (sym (first .operand .ensures)) (operand-within (a .work .now) (a .t .at) (a .r .left) bound (room .sets))),
-          (subst (λ (n : ℕ). n ≤ bound) (sym (second .operand2 .ensures)) (operand-within (a .work .now) (a .t .at) (a .r .right) bound (room .sets))),
-        ),
-      ),
-    )
+    may-make (a .t) (a .r) (a .work .now) (start .pre) (first .operand .result) (second .operand2 .result) (first .operand .ensures)
+    (second .operand2 .ensures)
 
 mul-work : tie.Need-mul-work
 mul-work c = search needs
@@ -77,7 +67,7 @@ returns-2 : tie.Need-returns-2
 returns-2 c =
     let image = c .before in
     let join = image .before in
-    let second = join .before .before in
+    let second = join .before in
     let first = second .before .before in
     let a = first .before .before .before .args in
     goes (a .t) (a .r) (a .work .now) (first .operand .result) (second .operand2 .result) (first .operand .ensures) (second .operand2 .ensures)

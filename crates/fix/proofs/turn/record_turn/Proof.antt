@@ -1,41 +1,49 @@
--- `turn::record_turn` puts the new record of the next one into the batch.
-use mathlib.Core.Path.{subst, sym}
-use Prim.Native.Nat.{_+_, _≤_, ℕ}
-use native.Mathlib.Omega.{arith}
-use Rattle.fix.proofs.Turning.{operand-within, records}
+-- `turn::record_turn` puts the new record of the next one into the batch, if the work says that there is one.
+use Rattle.fix.proofs.Turning.{left-there, may-make, right-there, skips, writes}
 use borrow.Author.Needs.{needs}
 use Rattle.fix.proofs.turn.record_turn.Statement.{statement}
 use Rattle.fix.proofs.turn.record_turn.Tie as tie
 
+mul-if1 : tie.Need-mul-if1
+mul-if1 c = search needs
+
+slice-read-if1 : tie.Need-slice-read-if1
+slice-read-if1 c = search needs
+
+add-if1 : tie.Need-add-if1
+add-if1 c = search needs
+
+pass-requires : tie.Need-pass-requires
+pass-requires c κs = search needs
+
+returns : tie.Need-returns
+returns c =
+    let a = c .before .before .before .before .before .args in
+    skips (a .t) (a .r) (a .work .now) (c .before .if1 .taken) (c .pass .result) (c .pass .ensures) (a .batch .now)
+
 operand-requires : tie.Need-operand-requires
-operand-requires c κs = search needs
+operand-requires c κs =
+    let start = c .before .before .before .before .before in
+    left-there (start .args .t) (start .args .r) (start .args .work .now) (start .pre .0)
 
 operand-requires-2 : tie.Need-operand-requires-2
-operand-requires-2 c κs = search needs
+operand-requires-2 c κs =
+    let start = c .before .before .before .before .before .before .before in
+    right-there (start .args .t) (start .args .r) (start .args .work .now) (start .pre .0)
 
 image-of-requires : tie.Need-image-of-requires
 image-of-requires c κs =
-    let second = c in
-    let first = second .before .before in
-    let start = first .before .before .before .before in
+    let first = c .before .before in
+    let start = first .before .before .before .before .before .before in
     let a = start .args in
-    let room = start .pre .0 in
-    let bound = a .t .made + 1 in (
-      room .place,
-      (
-        omega arith,
-        (
-          (subst (λ (n : ℕ). n ≤ bound) (sym (first .operand .ensures)) (operand-within (a .work .now) (a .t .at) (a .r .left) bound (room .sets))),
-          (subst (λ (n : ℕ). n ≤ bound) (sym (second .operand2 .ensures)) (operand-within (a .work .now) (a .t .at) (a .r .right) bound (room .sets))),
-        ),
-      ),
-    )
+    may-make (a .t) (a .r) (a .work .now) (start .pre .0) (first .operand .result) (c .operand2 .result) (first .operand .ensures)
+    (c .operand2 .ensures)
 
 put-requires : tie.Need-put-requires
 put-requires c κs = search needs
 
-pass-requires : tie.Need-pass-requires
-pass-requires c κs = search needs
+pass-requires-2 : tie.Need-pass-requires-2
+pass-requires-2 c κs = search needs
 
 same-length : tie.Need-same-length
 same-length c = search needs
@@ -43,25 +51,31 @@ same-length c = search needs
 same-length-2 : tie.Need-same-length-2
 same-length-2 c = search needs
 
-returns : tie.Need-returns
-returns c =
+returns-2 : tie.Need-returns-2
+returns-2 c =
     let put = c .before .before .before in
     let image = put .before .before .before in
     let second = image .before in
     let first = second .before .before in
-    let a = first .before .before .before .before .args in
-    records (a .t) (a .r) (a .work .now) (first .operand .result) (second .operand2 .result) (first .operand .ensures) (second .operand2 .ensures)
-    (image .image-of .result) (image .image-of .ensures) (c .pass .result) (c .pass .ensures) (put .put .last .0) (put .put .ensures)
+    let test = first .before .before in
+    let a = test .before .before .before .before .args in
+    writes (a .t) (a .r) (a .work .now) (first .operand .result) (second .operand2 .result) (first .operand .ensures) (second .operand2 .ensures)
+    (image .image-of .result) (image .image-of .ensures) (c .pass2 .result) (c .pass2 .ensures) (test .if1 .left) (put .put .last .0) (put .put .ensures)
 
 pub record-turn-spec : {M : Type 1} → statement M
 record-turn-spec =
     tie.close
     (tie.spec
+    mul-if1
+    slice-read-if1
+    add-if1
+    pass-requires
+    returns
     operand-requires
     operand-requires-2
     image-of-requires
     put-requires
-    pass-requires
+    pass-requires-2
     same-length
     same-length-2
-    returns)
+    returns-2)

@@ -9,7 +9,7 @@ returns : tie.Need-returns
 returns c = let a = c .before .before .args in refuses (a .t) (a .head) (a .work .now) (c .if1 .taken)
 
 new-set-requires : tie.Need-new-set-requires
-new-set-requires c κs = c .before .before .pre .fitted (c .if1 .left) .sets
+new-set-requires c κs = c .before .before .pre .fitted (c .if1 .left) .image
 
 sub-without-place : tie.Need-sub-without-place
 sub-without-place c = let test = c .before .before in test .before .before .pre .fitted (test .if1 .left) .place

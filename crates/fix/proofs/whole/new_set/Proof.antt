@@ -1,11 +1,16 @@
 -- `whole::new_set` is the image of the set.
-use mathlib.Core.Path.{_∙_, ap, subst, sym}
-use Prim.Native.Nat.{_≤_, ℕ}
-use Rattle.fix.specs.Sets.{setAfter, setIn}
-use Rattle.fix.proofs.Turning.{operand-within}
+use mathlib.Core.Path.{_∙_, ap, sym}
+use Prim.Native.Nat.{_<_, _≤_}
+use lib.ListN.{getD, length}
+use Rattle.fix.specs.Sets.{setAfter}
 use borrow.Author.Needs.{needs}
 use Rattle.fix.proofs.whole.new_set.Statement.{statement}
 use Rattle.fix.proofs.whole.new_set.Tie as tie
+
+-- where the set is a record, its image stands in the work
+image-there : (c : tie.After-set) → let work = c .before .before .before .args .work .now in
+    let i = c .set .given .0 .0 in (i < length work) × (getD work i 0 ≤ 60001)
+image-there c = c .before .before .before .pre (c .set .given .0 .0) (c .set .given .1)
 
 enum-told : tie.Need-enum-told
 enum-told c = search needs
@@ -16,14 +21,17 @@ enum-told-2 c = search needs
 enum-known-set : tie.Need-enum-known-set
 enum-known-set c = search needs
 
-operand-requires : tie.Need-operand-requires
-operand-requires c κs = search needs
+cast-set-of : tie.Need-cast-set-of
+cast-set-of c = search needs
+
+mul-set-of : tie.Need-mul-set-of
+mul-set-of c = search needs
+
+shared-slice-read-set-of : tie.Need-shared-slice-read-set-of
+shared-slice-read-set-of c = image-there (c .before .before) .0
 
 set-of-requires : tie.Need-set-of-requires
-set-of-requires c κs =
-    let start = c .before .before .before .before .before in
-    let a = start .args in
-    subst (λ (n : ℕ). n ≤ 60001) (sym (c .operand .ensures)) (operand-within (a .work .now) (a .used) _ 60001 (start .pre .sets))
+set-of-requires c κs = image-there (c .before .before) .1
 
 returns : tie.Need-returns
 returns c = search needs
@@ -34,8 +42,7 @@ returns-2 c = search needs
 returns-3 : tie.Need-returns-3
 returns-3 c =
     let known = c .before .before .before in
-    let a = known .before .before .before .args in
-    c .set-of .ensures ∙ ap setIn (c .before .operand .ensures) ∙ ap (setAfter (a .work .now) (a .used)) (sym (known .set .given .1))
+    c .set-of .ensures ∙ ap (setAfter (known .before .before .before .args .work .now)) (sym (known .set .given .1))
 
 pub new-set-spec : {M : Type 1} → statement M
 new-set-spec =
@@ -44,7 +51,9 @@ new-set-spec =
     enum-told
     enum-told-2
     enum-known-set
-    operand-requires
+    cast-set-of
+    mul-set-of
+    shared-slice-read-set-of
     set-of-requires
     returns
     returns-2
