@@ -12,10 +12,9 @@ use Rattle.paper.specs.Refusals.{queryIn}
 use Rattle.paper.specs.Stream.{number, recordsOf}
 use Rattle.stream.specs.Positions.{NextRule, after, recordAt}
 use Rattle.build.specs.Batch.{Record, Set, recordsIn}
-use Rattle.build.specs.Branches.{BranchReady, branchOf, rowFrom}
+use Rattle.build.specs.Branches.{BranchReady, branchOf}
 use Rattle.build.specs.Frames.{FrameIs, width}
-use Rattle.build.specs.Rules.{Branch, Branches, Room, Row, Stands}
-use Rattle.build.specs.Slots.{Marked}
+use Rattle.build.specs.Rules.{Branch, Branches, Room, Stands}
 use Rattle.build.specs.Standing.{AtRule, Standing, State, noSlots}
 use Rattle.build.proofs.Frames.{flags-at-most, frame-down}
 use Rattle.build.proofs.Limits.{more-records}

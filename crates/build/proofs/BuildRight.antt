@@ -1,19 +1,16 @@
--- Demand 2 of the function `build` itself: from the bytes handed to it to the table that it leaves. And demand 3 of its sets.
--- First that what it leaves is a built set, then the two demands, which the laws show of every built set.
+-- Demand 2 of the function `build` itself: from the bytes handed to it to the table that it leaves.
+-- First that what it leaves is a built set, then the demand, which the laws show of every built set.
 use mathlib.Core.List.{List}
 use mathlib.Core.Path.{_≡_, refl, sym, ap, _∙_}
 use Prim.Native.Nat.{ℕ}
 use lib.ListN.{length}
-use Rattle.paper.specs.declared.Built.{Built}
 use Rattle.paper.specs.declared.Built.the-variants as BuiltIs
 use Rattle.paper.specs.declared.Head.{Head}
-use Rattle.paper.specs.Answers.{saysBuilt, told}
+use Rattle.paper.specs.Answers.{told}
 use Rattle.paper.specs.Refusals.{Reply, refused, answer, build}
 use Rattle.laws.specs.Built.{BuiltSet, SaysTheAnswer}
-use Rattle.laws.specs.Fixings.{Lent, fixingsOf, Allowed, Suffices, FixedAll}
 use Rattle.laws.proofs.Replies.{answer-inj, refused-not-answer}
 use Rattle.laws.proofs.BuiltSets.{built-right}
-use Rattle.laws.proofs.FixingsRight.{built-fixings}
 use Rattle.build.specs.Batch.{Record}
 use Rattle.build.specs.Face.{Builds}
 
@@ -39,7 +36,3 @@ module _ (input work : List ℕ) (table : List Record) (h : Head) (work′ : Lis
   -- a row stands in the set exactly if it is accepted, it is listed once, and the questions say the same
   pub build-right : SaysTheAnswer input h table′
   build-right = built-right input h table′ is-built
-
-  -- its places can be fixed one after another, as demand 3 has it
-  pub build-fixings : (ls : List Lent) → Allowed h (fixingsOf ls) → Suffices (h .used) ls h table′ → FixedAll ls h table′
-  build-fixings ls ok enough = built-fixings input h table′ is-built ls ok enough

@@ -1,37 +1,27 @@
 -- The slots of the unjoined subtrees in the lent work, frame by frame.
--- First sets as numbers, where slots stand, and a part of the work pasted over; then one frame: unchanged, moved, a set put, cleared,
--- copied; then the same of the frames of a stack, and last that the work asked for has room for the frame on top.
-use mathlib.Core.Bool.{Bool, _&&_, cond, false, true}
+-- First where slots stand, and a part of the work pasted over; then one frame: moved, cleared, copied; then the frames of a stack, and
+-- the row of one state written in the frame on top; last that the work asked for has room for that frame.
+use mathlib.Core.Bool.{Bool, false, true}
 use mathlib.Core.List.{List, [], _++_, _∷_}
-use mathlib.Core.Path.{_∙_, _≡_, ap, ap₂, refl, subst, sym}
+use mathlib.Core.Path.{_∙_, _≡_, ap, refl, subst, sym}
 use Prim.Native.Nat.{_*_, _+_, _-_, _/_, _<_, _%_, _^_, _≤_, max, suc, zero, ℕ}
-use native.Mathlib.Nat.{mul-assoc, mul-le-mul-right, zero-mul}
+use native.Mathlib.Nat.{mul-assoc, mul-le-mul-right}
 use native.Mathlib.Omega.{arith}
-use borrow.Author.Tests.{eqb-false, eqb-true, ltb-false, ltb-true, ne-eqb}
-use lib.Dec.{eqb, ltb}
-use lib.ListN.{List·getD-append, drop, getD, getD-replicate, length, length-drop, length-replicate, replicate, set, take}
+use borrow.Author.Tests.{ltb-false, ltb-true}
+use lib.Dec.{ltb}
+use lib.ListN.{List·getD-append, drop, getD, getD-replicate, length, length-drop, length-replicate, replicate, take}
 use lib.Pow.{pow-mono, pow-pos}
-use lib.Seq.{getD-append-add, getD-drop, getD-set-other, getD-set-same, getD-take, length-paste-head, length-take-le, paste}
-use Rattle.paper.specs.Building.{Slots, buildWork, isEmpty, put}
+use lib.Seq.{getD-append-add, getD-drop, getD-take, length-paste-head, length-take-le, paste}
+use Rattle.paper.specs.Building.{Slots, buildWork}
 use Rattle.paper.specs.Lists.{through}
 use Rattle.paper.specs.Query.{Query}
 use Rattle.paper.specs.Stream.{StreamRecord}
 use Rattle.paper.specs.Tree.{Tree, grow, mostFrom, mostUnjoined, unjoined}
-use Rattle.laws.specs.Plain.{Set, at, empty}
+use Rattle.laws.specs.Plain.{Set, empty}
 use Rattle.build.specs.Batch.{setIn}
 use Rattle.build.specs.Frames.{FrameIs, FramesAre, width}
 use Rattle.build.specs.Slots.{Marked, rowAt}
 use Rattle.build.proofs.Slots.{marked-same}
-
--- ---- sets as numbers
-pub set-of-record : (i : ℕ) → setIn (i + 2) ≡ at i
-set-of-record i = ap setIn (let z : i + 2 ≡ suc (suc i) = omega arith in z)
-
--- only 0 is empty
-pub empty-number : (x : ℕ) → isEmpty (setIn x) ≡ eqb x 0
-empty-number zero = refl
-empty-number (suc zero) = refl
-empty-number (suc (suc n)) = sym (ne-eqb (suc (suc n)) 0 (λ e. omega arith))
 
 -- ---- where slots stand
 -- parts of one size, one after the other, do not overlap: frames, and the rows of a frame
@@ -54,18 +44,6 @@ rows-at-most arity state ha hq = omega (arith, flags-at-most arity ha, mul-le-mu
 -- a slot stands in its frame
 pub slot-below : (arity states q b : ℕ) → q < states → b < 2 ^ arity → q * 2 ^ arity + b < width arity states
 slot-below arity states q b hq hb = omega (arith, parts-apart (2 ^ arity) q states hq)
-
--- two slots that stand at the same number are one
-pub one-slot : (arity q b q′ b′ : ℕ) → b < 2 ^ arity → b′ < 2 ^ arity → q * 2 ^ arity + b ≡ q′ * 2 ^ arity + b′ → (q ≡ q′) × (b ≡ b′)
-one-slot arity q b q′ b′ hb hb′ e = go (ltb q q′) (ltb q′ q) refl refl
-  where
-    go : (c d : Bool) → ltb q q′ ≡ c → ltb q′ q ≡ d → (q ≡ q′) × (b ≡ b′)
-    go true d h k = absurd (omega (arith, parts-apart (2 ^ arity) q q′ (ltb-true q q′ h)))
-    go false true h k = absurd (omega (arith, parts-apart (2 ^ arity) q′ q (ltb-true q′ q k)))
-    go false false h k =
-        let same : q ≡ q′ = omega (arith, ltb-false q q′ h, ltb-false q′ q k) in
-        let rows : q * 2 ^ arity ≡ q′ * 2 ^ arity = ap (λ (x : ℕ). x * 2 ^ arity) same in
-        (same, omega arith)
 
 -- ---- a part of the work pasted over
 module _ (work new : List ℕ) (base size : ℕ) (fits : base + size ≤ length work) (enough : size ≤ length new) where
@@ -265,11 +243,6 @@ module _ (arity states : ℕ) where
       subst (λ (n : ℕ). FrameIs arity states work (n * width arity states) (getD others i none))
       (let z : length others - suc i ≡ suc (length others) - suc (suc i) = omega arith in z)
       (frame-down work others i none (omega arith) (fs .1))
-
-  -- the one frame left stands at 0
-  pub frame-root : (work : List ℕ) (slots : Slots Set) → FramesAre arity states work (slots ∷ []) → FrameIs arity states work 0 slots
-  frame-root work slots fs =
-      subst (λ (base : ℕ). FrameIs arity states work base slots) (zero-mul (width arity states)) (fs .0)
 
 -- ---- room
 -- the work asked for is one frame more than there are ever unjoined subtrees

@@ -1,16 +1,16 @@
 -- The table only grows while a set is built, so that records too many at some step are too many at the end, for refusal 6.
--- First growing, then the steps, folds of steps, and nodes; then a loop that stops early: before a record, in a leaf, in a branch,
--- at the end; last the refusal.
+-- First growing, then the steps, folds of steps, and nodes; then what is made before a record of the tree, against all that is made;
+-- last the refusal.
 use mathlib.Core.Bool.{Bool, _&&_, _||_, cond, false, true}
 use mathlib.Core.List.{List, [], _++_, _∷_, append-assoc, append-nil}
 use mathlib.Core.Path.{_∙_, _≡_, ap, refl, subst, sym}
-use Prim.Native.Nat.{_+_, _-_, _<_, _≤_, min, suc, ℕ}
+use Prim.Native.Nat.{_+_, _<_, _≤_, min, suc, ℕ}
 use native.Mathlib.Omega.{arith}
 use borrow.Author.Tests.{le-leb, leb-true}
 use lib.Dec.{eqb, leb}
 use lib.ListN.{length, length-append}
-use Rattle.paper.specs.Building.{Slots, Split, acceptStep, allPlaces, branchSlots, branchStep, isEmpty, leafSlots, leafStep, made, newRecord, productRecord, put, recordSets, singleRecord, slotsOf, splits, together, triple, unionRecord, unite}
-use Rattle.paper.specs.Lists.{countFrom, has, through, upTo}
+use Rattle.paper.specs.Building.{Slots, Split, acceptStep, allPlaces, branchStep, isEmpty, leafStep, made, newRecord, productRecord, put, recordSets, singleRecord, slotsOf, splits, together, triple, unionRecord, unite}
+use Rattle.paper.specs.Lists.{has, through, upTo}
 use Rattle.paper.specs.Query.{Query, Rule, branchRule, leafRule}
 use Rattle.paper.specs.Records.{productOf, singleOf, unionOf}
 use Rattle.paper.specs.Refusals.{Test, answer, build, headFrom, madeFrom, queryPart, refused, treePart, workFor}
@@ -20,8 +20,7 @@ use Rattle.laws.proofs.Replies.{Passes, unless-append}
 use Rattle.laws.specs.Plain.{Head, Record, Set, at, empty, unit}
 use Rattle.build.specs.Growing.{Grows}
 use Rattle.build.specs.NodeOrder.{Stack, fromNode, joinSlots, nodeSlots, pushSlots}
-use Rattle.build.proofs.Accepting.{accept-parts, made-end}
-use Rattle.build.proofs.NodeOrder.{branch-node, leaf-node, node-order}
+use Rattle.build.proofs.NodeOrder.{node-order}
 
 -- ---- growing
 pub grows-none : (s : List Record) → Grows s s
@@ -137,7 +136,7 @@ module _ (Q : Query) where
       let now : Stack = nodeSlots Q r n stack s in
       grows-then (node-grows r n stack s) (from-grows rs (suc n) (now .1) (now .0))
 
--- ---- a loop that stops early
+-- ---- before the end
 module _ (Q : Query) (records : List StreamRecord) (p : Passes (treePart records)) where
   nodes-grow : Grows ((fromNode Q records 0 [] []) .0) ((made Q (treeOf records)) .0)
   nodes-grow =
@@ -151,40 +150,6 @@ module _ (Q : Query) (records : List StreamRecord) (p : Passes (treePart records
       → fromNode Q rest n stack s ≡ fromNode Q records 0 [] [] → Grows s ((made Q (treeOf records)) .0)
   node-early rest n stack s e =
       grows-then (from-grows Q rest n stack s) (subst (λ (z : Stack). Grows (z .0) ((made Q (treeOf records)) .0)) (sym e) nodes-grow)
-
-  module _ (r : StreamRecord) (rest : List StreamRecord) (n : ℕ) (s : List Record) where
-    -- in a leaf, before some of the rules
-    pub leaf-early : (stack : List (Slots Set)) → fromNode Q (r ∷ rest) n stack s ≡ fromNode Q records 0 [] [] → r .kind ≡ 1
-        → (z : List Record × Slots Set) (rules : List Rule)
-        → through (leafStep recordSets (number r 0) n) z rules ≡ leafSlots recordSets (Q .rules) (number r 0) n s
-        → Grows (z .0) ((made Q (treeOf records)) .0)
-    leaf-early stack e kind z rules w =
-        let now : List Record × Slots Set = leafSlots recordSets (Q .rules) (number r 0) n s in
-        grows-then (subst (λ (y : List Record × Slots Set). Grows (z .0) (y .0)) w (leaves-grow (number r 0) n rules z))
-        (node-early rest (suc n) (now .1 ∷ stack) (now .0)
-        (ap (λ (y : Stack). fromNode Q rest (suc n) (y .1) (y .0)) (sym (leaf-node Q r n stack s kind)) ∙ e))
-
-    -- in a branch, before some of the splits
-    pub branch-early : (last older : Slots Set) (others : List (Slots Set))
-        → fromNode Q (r ∷ rest) n (last ∷ older ∷ others) s ≡ fromNode Q records 0 [] [] → (r .kind ≡ 1 → ⊥)
-        → (z : List Record × Slots Set) (xs : List Split)
-        → through (branchStep recordSets n older last) z xs ≡ branchSlots recordSets (Q .arity) (Q .rules) (number r 0) n older last s
-        → Grows (z .0) ((made Q (treeOf records)) .0)
-    branch-early last older others e kind z xs w =
-        let now : List Record × Slots Set = branchSlots recordSets (Q .arity) (Q .rules) (number r 0) n older last s in
-        grows-then (subst (λ (y : List Record × Slots Set). Grows (z .0) (y .0)) w (branches-grow n older last xs z))
-        (node-early rest (suc n) (now .1 ∷ others) (now .0)
-        (ap (λ (y : Stack). fromNode Q rest (suc n) (y .1) (y .0)) (sym (branch-node Q r n last older others s kind)) ∙ e))
-
-  -- at the end, before some of the states
-  pub accept-early : (s : List Record) (f : Slots Set) → fromNode Q records 0 [] [] ≡ (s, f ∷ []) → (q : ℕ) → q ≤ Q .states
-      → Grows ((through (acceptStep recordSets Q (root (treeOf records)) f) (s, empty) (upTo q)) .0) ((made Q (treeOf records)) .0)
-  accept-early s f e q h =
-      let n : ℕ = root (treeOf records) in
-      let now : List Record × Set = through (acceptStep recordSets Q n f) (s, empty) (upTo q) in
-      subst (λ (y : List Record × Set). Grows (now .0) (y .0))
-      (sym (made-end Q records p s f e ∙ accept-parts recordSets Q n f (s, empty) q h))
-      (accepts-grow Q n f (countFrom q (Q .states - q)) now)
 
 -- ---- the refusal
 -- a stream that is fine, with work enough, is refused with 6 where more records than fit are made, at the end or before

@@ -1,5 +1,4 @@
 -- One rule of a leaf: where its single goes, and where the building then stands.
-use mathlib.Core.Bool.{Bool, false, true}
 use mathlib.Core.List.{List, _++_}
 use mathlib.Core.Logic.{inl}
 use mathlib.Core.Path.{_∙_, _≡_, ap₂, subst, subst₂, sym}
@@ -21,7 +20,7 @@ use Rattle.build.proofs.Frames.{flags-at-most, slot-below}
 use Rattle.build.proofs.Limits.{more-records}
 use Rattle.build.proofs.NodeRules.{LeafRuleAt, fewer-left, leaf-first, leaf-rule-at, on-to-next}
 use Rattle.build.proofs.OwnRow.{Onward, low-row, own-row, row-rest, row-standing}
-use Rattle.build.proofs.Present.{NodeReady, frame-room, kind-here, label-here, node-ready}
+use Rattle.build.proofs.Present.{NodeReady, kind-here, label-here, node-ready}
 use Rattle.build.proofs.Running.{row-put, slot-row}
 
 -- where the row of a leaf's rule stands

@@ -2,7 +2,7 @@
 -- marks taken one after the other; last a mark that is added.
 use mathlib.Core.Bool.{Bool, false, true}
 use mathlib.Core.Path.{_∙_, _≡_, ap, refl, subst, subst₂, sym}
-use Prim.Native.Nat.{_*_, _+_, _-_, _/_, _<_, _%_, _^_, _≤_, max, min, suc, zero, ℕ}
+use Prim.Native.Nat.{_*_, _+_, _-_, _/_, _<_, _%_, _^_, _≤_, min, suc, zero, ℕ}
 use native.Mathlib.Nat.{div-add-mod', div-div-eq-div-mul, div-eq-of-lt, div-one, div-self, mod-lt, mul-div-cancel, mul-mod-left, pow-succ'}
 use native.Mathlib.Nat.{zero-div}
 use native.Mathlib.Omega.{arith}

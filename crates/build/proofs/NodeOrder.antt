@@ -1,15 +1,15 @@
 -- The building by the tree records in order is the building by the tree.
--- First records in two parts, for a loop that has passed the first; then the stack after any records, and after all of them;
--- last one record of the loop: a leaf, a branch, and what the tests at a branch give.
+-- First records in two parts, for a loop that has passed the first; then the stack after any records, and after all of them; last
+-- what the tests at a branch give.
 use mathlib.Core.Bool.{Bool, cond, false, true}
 use mathlib.Core.List.{List, [], _++_, _∷_, append-assoc, append-nil}
 use mathlib.Core.Path.{_∙_, _≡_, ap, refl, sym}
 use Prim.Native.Nat.{_+_, _≤_, suc, ℕ}
 use native.Mathlib.Omega.{arith}
-use borrow.Author.Tests.{eq-eqb, eqb-true, leb-true, ne-eqb}
+use borrow.Author.Tests.{eqb-true, leb-true, ne-eqb}
 use lib.Dec.{eqb}
 use lib.ListN.{length}
-use Rattle.paper.specs.Building.{Slots, branchSlots, leafSlots, recordSets, slotsOf}
+use Rattle.paper.specs.Building.{Slots, recordSets, slotsOf}
 use Rattle.paper.specs.Lists.{through}
 use Rattle.paper.specs.Query.{Query}
 use Rattle.paper.specs.Refusals.{Test, atEach, treeEndTests, treePart, treeTests}
@@ -108,23 +108,8 @@ module _ (Q : Query) where
       ∙ one-tree (unjoined records) []
       (eqb-true (length (unjoined records)) 1 (passes-right (atEach treeTests [] records) (treeEndTests records) p .1 .0))
 
-  -- ---- one record of the loop
-  -- a leaf
-  pub leaf-node : (r : StreamRecord) (n : ℕ) (stack : List (Slots Set)) (s : List Record) → r .kind ≡ 1
-      → nodeSlots Q r n stack s
-      ≡ ((leafSlots recordSets (Q .rules) (number r 0) n s) .0, (leafSlots recordSets (Q .rules) (number r 0) n s) .1 ∷ stack)
-  leaf-node r n stack s e = rw (eq-eqb (r .kind) 1 e)
-
-  -- a branch, with two entries or more on the stack
-  pub branch-node : (r : StreamRecord) (n : ℕ) (last older : Slots Set) (others : List (Slots Set)) (s : List Record) → (r .kind ≡ 1 → ⊥)
-      → nodeSlots Q r n (last ∷ older ∷ others) s
-      ≡ (
-        (branchSlots recordSets (Q .arity) (Q .rules) (number r 0) n older last s) .0,
-        (branchSlots recordSets (Q .arity) (Q .rules) (number r 0) n older last s) .1 ∷ others,
-      )
-  branch-node r n last older others s e = rw (ne-eqb (r .kind) 1 e)
-
--- the tests at a record that stands behind others
+-- ---- the tests
+-- at a record that stands behind others
 pub tests-at : (tests : List StreamRecord → StreamRecord → List Test) (passed before : List StreamRecord)
     (r : StreamRecord) (rest : List StreamRecord)
     → Passes (atEach tests passed (before ++ (r ∷ rest))) → Passes (tests (passed ++ before) r)
@@ -140,9 +125,3 @@ two-unjoined before r rest p e =
     let records : List StreamRecord = before ++ (r ∷ rest) in
     let q = tests-at treeTests [] before r rest (passes-left (atEach treeTests [] records) (treeEndTests records) p) in
     leb-true 2 (length (unjoined before)) (rw (ne-eqb (r .kind) 1 e) at (q .1 .1 .1 .0))
-
--- a list of two or more, taken apart
-pub two-or-more : {A : Type 0} (xs : List A) → 2 ≤ length xs → (x : A) × (y : A) × (others : List A) × (xs ≡ x ∷ y ∷ others)
-two-or-more [] h = absurd (omega arith)
-two-or-more (x ∷ []) h = absurd (omega arith)
-two-or-more (x ∷ y ∷ others) h = (x, y, others, refl)

@@ -2,7 +2,7 @@
 -- where rows stand in the work, then the rule.
 use mathlib.Core.Bool.{Bool, false, true}
 use mathlib.Core.List.{List, _++_, _∷_}
-use mathlib.Core.Path.{_∙_, _≡_, ap, refl, subst, sym}
+use mathlib.Core.Path.{_≡_, ap, refl, subst, sym}
 use Prim.Native.Nat.{_*_, _+_, _-_, _<_, _%_, _^_, _≤_, suc, ℕ}
 use native.Mathlib.Omega.{arith}
 use borrow.Author.Tests.{ltb-false, ltb-true}

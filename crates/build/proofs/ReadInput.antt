@@ -6,7 +6,6 @@ use Prim.Native.Nat.{_*_, _≤_, ℕ}
 use native.Mathlib.Omega.{arith}
 use borrow.Author.Tests.{leb-true}
 use lib.Dec.{leb}
-use lib.ListN.{drop}
 use Rattle.paper.specs.Lists.{_∈_}
 use Rattle.paper.specs.Query.{acceptingOf, queryOf, rulesOf}
 use Rattle.paper.specs.Refusals.{answer, atEach, headTests, nodesIn, queryEndTests, queryIn, queryPart, queryTests, treePart}

@@ -62,7 +62,3 @@ module _ (head : StreamRecord) (before : List StreamRecord) (r : StreamRecord) (
         state-below rule 1 (rw e (omega arith)),
         state-below rule 2 (rw e (omega arith)),
       )
-
-  -- an accepting state
-  pub accepting-number : r .kind ≡ 19 → number r 0 < number head 1
-  accepting-number e = ltb-true (number r 0) (number head 1) (rw e at (tests .1 .1 .0))

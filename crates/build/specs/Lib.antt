@@ -3,7 +3,6 @@ pub mod Slots
 pub mod Rules
 pub mod NodeOrder
 pub mod RuleOrder
-pub mod Accepting
 pub mod Growing
 pub mod Frames
 pub mod States

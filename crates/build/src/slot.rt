@@ -1,7 +1,7 @@
 // A slot is a number of the lent work, and its low 16 bits are a set. Above them the number of a row's first slot has the row's marks:
 // a bit for each flag at which the row may have a set that is not empty, so that the other flags need not be looked at.
 ghost use mathlib.Core.Path.{_≡_};
-ghost use Prim.Native.Nat.{_+_, _-_, _≤_, _<_, _/_, _%_};
+ghost use Prim.Native.Nat.{_+_, _-_, _<_, _/_, _%_};
 ghost use lib.Bits.{bitAnd};
 ghost use lib.Count.{trailingZeros};
 ghost use lib.ListN.{length};

@@ -1,5 +1,4 @@
 // What is done between two times that the batch goes into the table.
-ghost use mathlib.Core.Path.{_≡_};
 ghost use Prim.Native.Nat.{_≤_};
 ghost use lib.ListN.{length};
 ghost use Rattle.build.specs.Standing.{IsStanding, IsFilling, Turned, Fills};

@@ -1,19 +1,19 @@
 -- `build::build` meets its contract: a walk of its MIR, by hand. It is a straight line but for two tests: whether `begin` refuses, and
 -- whether more records are made than fit. First how the walk ends, then the four calls, then the two arms and the whole.
--- Assumes nothing.
+-- The idea: each call makes of the lent lists what its contract says, and `Facing` puts that together. Assumes nothing.
 use Rattle.table.proofs.Prelude.{ℕ, _<_, _^_, _≤_, Lft, GName, Share, ftrue, flft, Fml, froom, SProp, ent, emp, id⊢, via, fst∗, Fun, givenOf}
-use Rattle.table.proofs.Prelude.{tables, tablesOf, usize, u64, u16, u8, yes, Is, nothing-tells, owns, RefT, now, sliceVal, ShrSlice, Room}
+use Rattle.table.proofs.Prelude.{tables, tablesOf, u64, u16, u8, Is, nothing-tells, owns, RefT, now, sliceVal, ShrSlice, Room}
 use Rattle.table.proofs.Prelude.{slice-vals, shr-slice-tells, MutSlice, mut-slice-tells, nothing, owned, heard, Vals, onEntry, Contract, Triple}
-use Rattle.table.proofs.Prelude.{cited, says, Stays, walkOf, ends-at, Atoms, fullShare, URA, Tr, lit<, length, List, [], _∷_, _≡_, refl, sym, ap}
+use Rattle.table.proofs.Prelude.{cited, says, Stays, walkOf, ends-at, Atoms, fullShare, URA, lit<, length, List, [], _∷_, _≡_, refl, sym}
 use Rattle.table.proofs.Prelude.{subst, _∙_, named, w16, w64, Ty, Val, vint, vunit, arith, Memory, Routine, Heap, WpFn, Tables, Wp, afterSeq, fmOf}
-use Rattle.table.proofs.Prelude.{Given, ‵, _⊛_, ⋆, _$_, _∵_, !, qed, by, move, keep, split, join, rewrite, fsplit, fjoin, suffices, frame, done}
+use Rattle.table.proofs.Prelude.{Given, ‵, _⊛_, ⋆, _$_, _∵_, !, qed, by, move, keep, split, join, fsplit, fjoin, suffices, frame, done}
 use Rattle.table.proofs.Prelude.{drop, Item, raw, Sq, runs, anyQ, atRet, atReturn, use1, split3, feqL, group, agg, init, forget, stop, from, lit}
 use Rattle.table.proofs.Prelude.{of-opd, addr, load, and-then, no-more, assigns-last, land, land-last, first, exec}
 use types.Kit as Kit
 use types.Run.{fld, branches, skips}
 use types.Match.{vrt, in-variant, look-tag, by-variants}
 use types.Part.{whole, look-in}
-use mathlib.Core.Bool.{Bool, true, false}
+use mathlib.Core.Bool.{true, false}
 use mathlib.Core.List.{_++_}
 use mir.Syntax.{Body, seq, assign, cond, call, skip as skipᴹ, place, field, deref, rvOpd, addrOf, aggregate, copy, tyInt}
 use mir.Val.{vptr, vbool}
@@ -21,7 +21,7 @@ use lib.ListN.{replicate}
 use denote.Slice.{shr-slice-copy}
 use denote.Enum.Laws as LE
 use Rattle.table.proofs.Steps.{Typed, number-typed, slice-typed, value, part, elements, sets, big-lit, owns-number}
-use Rattle.table.proofs.Parameters.{lent, shown, still, gone, goes-still, goes-shown}
+use Rattle.table.proofs.Parameters.{shown, still, gone, goes-still, goes-shown}
 use Rattle.table.proofs.Locals.{finish, Hold, full, bare, locals, Blocks, envOf, enters, leaves, span}
 use Rattle.table.proofs.States.{machine, state-tells, state-makes, state-typed, holds, fails}
 use Rattle.table.proofs.Entries.{Entry, EntryTy}

@@ -2,10 +2,10 @@
 -- Assumes nothing.
 use mathlib.Core.Bool.{true, false, true≢false}
 use mathlib.Core.List.{List, [], _++_}
-use mathlib.Core.Path.{_≡_, refl, sym, ap, _∙_, subst}
-use Prim.Native.Nat.{ℕ, _*_, _+_, _≤_, _<_}
+use mathlib.Core.Path.{_≡_, refl, sym, _∙_, subst}
+use Prim.Native.Nat.{ℕ, _+_, _≤_, _<_}
 use native.Mathlib.Omega.{arith}
-use lib.ListN.{length, drop, length-append}
+use lib.ListN.{length, drop}
 use mir.Syntax.{w64, tyInt}
 use contract.Running.{givenOf, tables, tablesOf}
 use denote.Builtin.{u64}

@@ -8,8 +8,7 @@ use native.Mathlib.Omega.{arith}
 use borrow.Author.Tests.{leb-false, leb-true}
 use lib.ListN.{length}
 use Rattle.build.specs.Batch.{Record}
-use Rattle.build.specs.Standing.{Filling, State, Stepped, Turned, turnsLeft}
-use Rattle.build.specs.States.{emptied}
+use Rattle.build.specs.Standing.{Filling, Stepped, Turned, turnsLeft}
 use Rattle.build.proofs.TurnLoop.{Filled, emptied-filling, emptied-stepped, filled-ends, filled-filling, filled-onward, filled-starts}
 use Rattle.build.proofs.step.step.Statement.{statement}
 use Rattle.build.proofs.step.step.Tie as tie
