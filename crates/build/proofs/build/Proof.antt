@@ -2,7 +2,7 @@
 -- whether more records are made than fit. First how the walk ends, then the four calls, then the two arms and the whole.
 -- The idea: each call makes of the lent lists what its contract says, and `Facing` puts that together. Assumes nothing.
 use Rattle.table.proofs.Prelude.{ℕ, _<_, _^_, _≤_, Lft, GName, Share, ftrue, flft, Fml, froom, SProp, ent, emp, id⊢, via, fst∗, Fun, givenOf}
-use Rattle.table.proofs.Prelude.{tables, tablesOf, u64, u16, u8, Is, nothing-tells, owns, RefT, now, sliceVal, ShrSlice, Room}
+use Rattle.table.proofs.Prelude.{tables, tablesOf, u64, u16, u8, Is, nothing-tells, owns, RefT, sliceVal, ShrSlice, Room}
 use Rattle.table.proofs.Prelude.{slice-vals, shr-slice-tells, MutSlice, mut-slice-tells, nothing, owned, heard, Vals, onEntry, Contract, Triple}
 use Rattle.table.proofs.Prelude.{cited, says, Stays, walkOf, ends-at, Atoms, fullShare, URA, lit<, length, List, [], _∷_, _≡_, refl, sym}
 use Rattle.table.proofs.Prelude.{subst, _∙_, named, w16, w64, Ty, Val, vint, vunit, arith, Memory, Routine, Heap, WpFn, Tables, Wp, afterSeq, fmOf}
