@@ -1,7 +1,7 @@
 -- One rule of a branch: where its rows stand, that there is room for it, and where the building then stands.
 use mathlib.Core.List.{List, _++_}
 use mathlib.Core.Logic.{inr, ⊎-elim}
-use mathlib.Core.Path.{_∙_, _≡_, ap, refl, subst, subst₂, sym}
+use mathlib.Core.Path.{_∙_, _≡_, ap, refl, subst, subst₃, sym}
 use Prim.Native.Nat.{_*_, _+_, _-_, _<_, _^_, _≤_, suc, ℕ}
 use native.Mathlib.Omega.{arith}
 use lib.ListN.{drop, getD, length}
@@ -91,7 +91,7 @@ module _ (input : List ℕ) (t : State) (work : List ℕ) (made : List Record) (
 
 -- the rule is done
 module _ (input : List ℕ) (t : State) (work batch : List ℕ) (base : List Record) (s : Standing input t work (base ++ recordsIn (t .count) batch))
-    (start : length base ≡ t .from) (h : t .rule < length input) (branch : getD input (t .at) 0 ≡ 1 → ⊥) (count next from label : ℕ)
+    (start : length base ≡ t .from) (h : t .rule < length input) (branch : getD input (t .at) 0 ≡ 1 → ⊥) (count next : ℕ)
     (work′ batch′ : List ℕ) (long : length work′ ≡ length work) where
   abbrev made : List Record
   made = base ++ recordsIn (t .count) batch
@@ -117,13 +117,12 @@ module _ (input : List ℕ) (t : State) (work batch : List ℕ) (base : List Rec
   bytes : BranchRuleAt input t (number (s .node .here) 0)
   bytes = branch-bytes input t work made s h branch
 
-  module _ (e : Branches (branchOf input t (t .rule)) (t .count) batch work count batch′ work′) (behind : from ≡ t .rule + 6)
-      (labelled : label ≡ getD input (t .at + 1) 0) (search : NextRule input from 18 label next) where
+  module _ (e : Branches (branchOf input t (t .rule)) (t .count) batch work count batch′ work′)
+      (search : NextRule input (t .rule + 6) 18 (getD input (t .at + 1) 0) next) where
     found : NextRule input (after input (t .rule)) (s .node .here .kind + 16) (number (s .node .here) 0) next
     found =
         let same : 18 ≡ s .node .here .kind + 16 = omega (arith, kind) in
-        subst (λ x. NextRule input x (s .node .here .kind + 16) (number (s .node .here) 0) next) (behind ∙ sym (bytes .behind))
-        (subst₂ (λ x y. NextRule input from x y next) same (labelled ∙ label-here input t (s .constants) (s .node)) search)
+        subst₃ (λ x y z. NextRule input x y z next) (sym (bytes .behind)) same (label-here input t (s .constants) (s .node)) search
 
     done : Stands base (getD input (t .rule + 5) 0) (branchOf input t (t .rule)) z count batch′ work′
         × ((q b : ℕ) → (q ≡ getD input (t .rule + 5) 0 → ⊥) → z .1 q b ≡ s .slots q b)
@@ -169,6 +168,5 @@ module _ (input : List ℕ) (t : State) (work batch : List ℕ) (base : List Rec
 
   -- of the numbers that the code has
   pub branch-onward : {rule : Branch} → rule ≡ branchOf input t (t .rule) → Branches rule (t .count) batch work count batch′ work′
-      → from ≡ t .rule + 6 → label ≡ getD input (t .at + 1) 0 → NextRule input from 18 label next
-      → Onward input t work base count next work′ batch′
+      → NextRule input (t .rule + 6) 18 (getD input (t .at + 1) 0) next → Onward input t work base count next work′ batch′
   branch-onward same e = branch-stepped (subst (λ x. Branches x (t .count) batch work count batch′ work′) same e)

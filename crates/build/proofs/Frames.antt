@@ -1,4 +1,5 @@
--- The slots of the unjoined subtrees in the lent work, frame by frame.
+-- The slots of the unjoined subtrees in the lent work, frame by frame. The idea: frames are parts of one size, and so are the rows of a
+-- frame; two such parts do not overlap, so that what is written in one leaves the others.
 -- First where slots stand, and a part of the work pasted over; then one frame: moved, cleared, copied; then the frames of a stack, and
 -- the row of one state written in the frame on top; last that the work asked for has room for that frame.
 use mathlib.Core.Bool.{Bool, false, true}

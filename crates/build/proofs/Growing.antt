@@ -1,4 +1,5 @@
 -- The table only grows while a set is built, so that records too many at some step are too many at the end, for refusal 6.
+-- The idea: one operation leaves the table as it was or has one record behind it, and what grows twice has grown.
 -- First growing, then the steps, folds of steps, and nodes; then what is made before a record of the tree, against all that is made;
 -- last the refusal.
 use mathlib.Core.Bool.{Bool, _&&_, _||_, cond, false, true}

@@ -1,4 +1,5 @@
--- The end of a node: its frame becomes that of a subtree. A leaf's stays where it is, a branch's is copied down over the older child's.
+-- The end of a node: its frame becomes that of a subtree. A leaf's stays where it is, a branch's is copied down over the older child's,
+-- and the last child's is left behind.
 use mathlib.Core.List.{List, [], _∷_}
 use mathlib.Core.Path.{_∙_, _≡_, ap, refl, subst, sym}
 use Prim.Native.Nat.{_*_, _+_, _-_, _<_, _%_, _≤_, ℕ}

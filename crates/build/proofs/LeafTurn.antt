@@ -1,7 +1,7 @@
 -- One rule of a leaf: where its single goes, and where the building then stands.
 use mathlib.Core.List.{List, _++_}
 use mathlib.Core.Logic.{inl}
-use mathlib.Core.Path.{_∙_, _≡_, ap₂, subst, subst₂, sym}
+use mathlib.Core.Path.{_∙_, _≡_, ap₂, subst, subst₃, sym}
 use Prim.Native.Nat.{_+_, _<_, _^_, _≤_, ℕ}
 use native.Mathlib.Omega.{arith}
 use borrow.Author.Tests.{ne-eqb}
@@ -62,10 +62,8 @@ module _ (input : List ℕ) (t : State) (work : List ℕ) (made : List Record) (
 
 -- the rule is done
 module _ (input : List ℕ) (t : State) (work batch : List ℕ) (base : List Record) (s : Standing input t work (base ++ recordsIn (t .count) batch))
-    (start : length base ≡ t .from) (h : t .rule < length input) (leaf : getD input (t .at) 0 ≡ 1) (count next from label : ℕ)
-    (work′ batch′ : List ℕ) (long : length work′ ≡ length work)
-    (e : Leaves (t .node) (getD input (t .rule + 2) 0) (leafRow input t) (t .from) (t .count) batch work count batch′ work′)
-    (behind : from ≡ t .rule + 4) (labelled : label ≡ getD input (t .at + 1) 0) (search : NextRule input from 17 label next) where
+    (start : length base ≡ t .from) (h : t .rule < length input) (leaf : getD input (t .at) 0 ≡ 1) (count next : ℕ)
+    (work′ batch′ : List ℕ) (long : length work′ ≡ length work) where
   abbrev made : List Record
   made = base ++ recordsIn (t .count) batch
 
@@ -81,42 +79,50 @@ module _ (input : List ℕ) (t : State) (work batch : List ℕ) (base : List Rec
   bytes : LeafRuleAt input t (number (s .node .here) 0)
   bytes = leaf-bytes input t work made s h leaf
 
-  found : NextRule input (after input (t .rule)) (s .node .here .kind + 16) (number (s .node .here) 0) next
-  found =
-      let same : 17 ≡ s .node .here .kind + 16 = omega (arith, kind) in
-      subst (λ x. NextRule input x (s .node .here .kind + 16) (number (s .node .here) 0) next) (behind ∙ sym (bytes .behind))
-      (subst₂ (λ x y. NextRule input from x y next) same (labelled ∙ label-here input t (s .constants) (s .node)) search)
+  module _ (e : Leaves (t .node) (getD input (t .rule + 2) 0) (leafRow input t) (t .from) (t .count) batch work count batch′ work′)
+      (search : NextRule input (t .rule + 4) 17 (getD input (t .at + 1) 0) next) where
+    found : NextRule input (after input (t .rule)) (s .node .here .kind + 16) (number (s .node .here) 0) next
+    found =
+        let same : 17 ≡ s .node .here .kind + 16 = omega (arith, kind) in
+        subst₃ (λ x y z. NextRule input x y z next) (sym (bytes .behind)) same (label-here input t (s .constants) (s .node)) search
 
-  step : leafStep recordSets (number (s .node .here) 0) (t .node) (made, s .slots)
-      (leafRule (number (s .node .here) 0) (number (recordAt input (t .rule)) 1) (number (recordAt input (t .rule)) 2))
-      ≡ (base ++ recordsIn count batch′, slots)
-  step =
-      ap₂ (λ b q. leafStep recordSets (number (s .node .here) 0) (t .node) (made, s .slots) (leafRule (number (s .node .here) 0) b q))
-      (bytes .flag-byte) (bytes .state-byte)
-      ∙ e .leaves base (s .slots) (number (s .node .here) 0) (getD input (t .rule + 3) 0) start
+    step : leafStep recordSets (number (s .node .here) 0) (t .node) (made, s .slots)
+        (leafRule (number (s .node .here) 0) (number (recordAt input (t .rule)) 1) (number (recordAt input (t .rule)) 2))
+        ≡ (base ++ recordsIn count batch′, slots)
+    step =
+        ap₂ (λ b q. leafStep recordSets (number (s .node .here) 0) (t .node) (made, s .slots) (leafRule (number (s .node .here) 0) b q))
+        (bytes .flag-byte) (bytes .state-byte)
+        ∙ e .leaves base (s .slots) (number (s .node .here) 0) (getD input (t .rule + 3) 0) start
 
-  onward : AtRule input (t .node) next (s .node .here) (s .node .earlier) (s .node .stack) (base ++ recordsIn count batch′, slots)
-  onward =
-      on-to-next input t (s .constants) (s .node .here) (s .node .earlier) (s .node .stack) (made, s .slots) (s .rule) h next found
-      (inl kind) (base ++ recordsIn count batch′, slots)
-      (leaf-first (queryIn input) (s .node .here) (t .node) (s .node .stack) kind (recordAt input (t .rule))
-      (recordsOf (drop (after input (t .rule)) input)) (bytes .rule) (made, s .slots) (base ++ recordsIn count batch′, slots) step)
+    onward : AtRule input (t .node) next (s .node .here) (s .node .earlier) (s .node .stack) (base ++ recordsIn count batch′, slots)
+    onward =
+        on-to-next input t (s .constants) (s .node .here) (s .node .earlier) (s .node .stack) (made, s .slots) (s .rule) h next found
+        (inl kind) (base ++ recordsIn count batch′, slots)
+        (leaf-first (queryIn input) (s .node .here) (t .node) (s .node .stack) kind (recordAt input (t .rule))
+        (recordsOf (drop (after input (t .rule)) input)) (bytes .rule) (made, s .slots) (base ++ recordsIn count batch′, slots) step)
 
-  one-row : OneRow (leafRow input t) (2 ^ t .arity) (t .from) 1 (t .count) work count work′
-  one-row =
-      slot-row (e .slot) (2 ^ t .arity) (bytes .flag) (low-row input t work made s (t .top) state (omega arith) (bytes .state))
+    one-row : OneRow (leafRow input t) (2 ^ t .arity) (t .from) 1 (t .count) work count work′
+    one-row =
+        slot-row (e .slot) (2 ^ t .arity) (bytes .flag) (low-row input t work made s (t .top) state (omega arith) (bytes .state))
 
-  others : (q b : ℕ) → (q ≡ state → ⊥) → slots q b ≡ s .slots q b
-  others q b apart = rw (ne-eqb state q (λ same. apart (sym same)))
+    others : (q b : ℕ) → (q ≡ state → ⊥) → slots q b ≡ s .slots q b
+    others q b apart = rw (ne-eqb state q (λ same. apart (sym same)))
 
-  pub leaf-onward : Onward input t work base count next work′ batch′
-  leaf-onward =
-      let row = row-put (e .slot) (2 ^ t .arity) state (s .slots) (own-row input t work made s state (bytes .state)) in
-      let used : length (base ++ recordsIn count batch′) ≡ t .from + count = omega (arith, more-records base count batch′) in
-      record {
-        standing = row-standing input t work made s state (bytes .state) (base ++ recordsIn count batch′) slots used long one-row row others onward;
-        rest = row-rest input t work made s state (bytes .state) (base ++ recordsIn count batch′) slots used long one-row row others onward;
-        few = omega (arith, e .slot .few);
-        fewer =
-            fewer-left input t (s .constants) (s .node .here) (s .node .earlier) (s .node .stack) (made, s .slots) (s .rule) h next found;
-      }
+    leaf-stepped : Onward input t work base count next work′ batch′
+    leaf-stepped =
+        let row = row-put (e .slot) (2 ^ t .arity) state (s .slots) (own-row input t work made s state (bytes .state)) in
+        let used : length (base ++ recordsIn count batch′) ≡ t .from + count = omega (arith, more-records base count batch′) in
+        record {
+          standing = row-standing input t work made s state (bytes .state) (base ++ recordsIn count batch′) slots used long one-row row others onward;
+          rest = row-rest input t work made s state (bytes .state) (base ++ recordsIn count batch′) slots used long one-row row others onward;
+          few = omega (arith, e .slot .few);
+          fewer =
+              fewer-left input t (s .constants) (s .node .here) (s .node .earlier) (s .node .stack) (made, s .slots) (s .rule) h next found;
+        }
+
+  -- of the numbers that the code has
+  pub leaf-onward : {to : ℕ} → to ≡ leafRow input t
+      → Leaves (t .node) (getD input (t .rule + 2) 0) to (t .from) (t .count) batch work count batch′ work′
+      → NextRule input (t .rule + 4) 17 (getD input (t .at + 1) 0) next → Onward input t work base count next work′ batch′
+  leaf-onward same e =
+      leaf-stepped (subst (λ x. Leaves (t .node) (getD input (t .rule + 2) 0) x (t .from) (t .count) batch work count batch′ work′) same e)

@@ -1,5 +1,5 @@
 -- The records of a turn against the limit: the building goes on with them, or stops since it makes more than fit.
--- First numbers that stay and the number that falls, then the two ways.
+-- First numbers that stay, the number that falls, and how the building stops; then the two ways.
 use mathlib.Core.Bool.{Bool, cond, false, false≢true, true, true≢false}
 use mathlib.Core.List.{List, _++_}
 use mathlib.Core.Path.{_∙_, _≡_, refl, sym}
@@ -9,13 +9,13 @@ use native.Mathlib.Omega.{arith}
 use borrow.Author.Tests.{ltb-false, ltb-true}
 use lib.Dec.{ltb}
 use lib.ListN.{drop, length, length-append}
-use Rattle.paper.specs.Refusals.{nodesIn}
+use Rattle.paper.specs.Refusals.{madeFrom, nodesIn}
 use Rattle.paper.specs.Stream.{recordsOf}
+use Rattle.table.proofs.Batches.{length-records}
 use Rattle.build.specs.Batch.{Record, recordsIn}
 use Rattle.build.specs.Standing.{Constants, Filling, Standing, State, Stepped, turnsLeft}
-use Rattle.build.specs.States.{counted, more, stopped}
+use Rattle.build.specs.States.{counted, ended, more, stopped}
 use Rattle.build.proofs.Growing.{grows-past}
-use Rattle.build.proofs.Making.{length-records}
 use Rattle.build.proofs.NodeEnd.{made-stay}
 use Rattle.build.proofs.Present.{node-of}
 
@@ -42,6 +42,26 @@ some-left input t work made s =
     let nodes : 1 ≤ nodesIn input - t .node = omega (arith, node-of input t (s .constants) (s .node)) in
     rw (s .going) (omega (arith, mul-le-mul-right (suc (length input)) nodes))
 
+-- more records are made than fit: the building stops, whatever set it has come to
+pub stops-past : (input : List ℕ) (t : State) (work batch : List ℕ) (base : List Record) → Filling input t work batch base → (set : ℕ)
+    {work′ batch′ : List ℕ} → drop (t .asked) work′ ≡ drop (t .asked) work → t .limit < length (madeFrom input)
+    → Stepped input t work base (ended (stopped t) set) work′ batch′
+stops-past input t work batch base f set rest many = record {
+  limit = refl;
+  asked = refl;
+  rest = rest;
+  from = sym (f .start);
+  count = omega arith;
+  fits = omega (arith, f .few);
+  goes = λ e. absurd (false≢true e);
+  stops = λ e. record {
+    constants = constants-stay input t (ended (stopped t) set) refl refl refl refl refl refl (f .standing .constants);
+    done = λ w. absurd (true≢false w);
+    past = λ w. (many, refl);
+  };
+  falls = some-left input t work (base ++ recordsIn (t .count) batch) (f .standing);
+}
+
 -- ---- rules of a node that are done, with so many records in the batch
 module _ (input : List ℕ) (t : State) (work batch : List ℕ) (base : List Record) (f : Filling input t work batch base) (count next : ℕ)
     (work′ batch′ : List ℕ) (s : Standing input (more t count next) work′ (base ++ recordsIn count batch′)) (few : count ≤ 648)
@@ -49,25 +69,10 @@ module _ (input : List ℕ) (t : State) (work batch : List ℕ) (base : List Rec
     (fewer : length (recordsOf (drop next input)) < length (recordsOf (drop (t .rule) input))) where
   -- too many
   past-limit : t .limit - t .from < count → Stepped input t work base (stopped t) work′ batch′
-  past-limit h = record {
-    limit = refl;
-    asked = refl;
-    rest = rest;
-    from = sym (f .start);
-    count = omega arith;
-    fits = omega (arith, f .few);
-    goes = λ e. absurd (false≢true e);
-    stops = λ e. record {
-      constants = constants-stay input t (stopped t) refl refl refl refl refl refl (f .standing .constants);
-      done = λ w. absurd (true≢false w);
-      past = λ w. (
-        grows-past (made-stay input (more t count next) (s .constants) (s .node) next (base ++ recordsIn count batch′, s .slots) (s .rule)) (t .limit)
-            (omega (arith, s .used, f .few)),
-        refl,
-      );
-    };
-    falls = some-left input t work (base ++ recordsIn (t .count) batch) (f .standing);
-  }
+  past-limit h =
+      stops-past input t work batch base f (t .set) rest
+      (grows-past (made-stay input (more t count next) (s .constants) (s .node) next (base ++ recordsIn count batch′, s .slots) (s .rule)) (t .limit)
+      (omega (arith, s .used, f .few)))
 
   -- as many as fit
   within-limit : count ≤ t .limit - t .from → Stepped input t work base (more t count next) work′ batch′

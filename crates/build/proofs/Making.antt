@@ -8,13 +8,10 @@ use borrow.Author.Tests.{eq-eqb, ne-eqb}
 use lib.ListN.{length, length-append}
 use Rattle.paper.specs.Building.{newRecord, productRecord, singleRecord, unionRecord}
 use Rattle.paper.specs.Records.{productOf, singleOf, unionOf}
-use Rattle.build.specs.Batch.{Made, Makes, Record, Set, at, empty, recordAt, recordsIn, setIn, unit}
+use Rattle.table.proofs.Batches.{length-records}
+use Rattle.build.specs.Batch.{Made, Makes, Record, Set, at, empty, recordsIn, setIn, unit}
 
 -- ---- numbers and what they mean
-pub length-records : (k : ℕ) (B : List ℕ) → length (recordsIn k B) ≡ k
-length-records zero B = refl
-length-records (suc k) B = omega (arith, length-append (recordsIn k B) (recordAt B k ∷ []), length-records k B)
-
 set-of : (i : ℕ) → setIn (i + 2) ≡ at i
 set-of i = ap setIn (let e : i + 2 ≡ suc (suc i) = omega arith in e)
 

@@ -1,7 +1,8 @@
 -- The marks of a row as the binary digits of a number. First one mark of a number; then the first mark and the others, in one step; then
--- marks taken one after the other; last a mark that is added.
+-- marks taken one after the other; last a mark that is added. The idea: the lowest digit is the first mark, or the first mark stands one
+-- up from that of the half.
 use mathlib.Core.Bool.{Bool, false, true}
-use mathlib.Core.Path.{_∙_, _≡_, ap, refl, subst, subst₂, sym}
+use mathlib.Core.Path.{_∙_, _≡_, ap, refl, subst, sym}
 use Prim.Native.Nat.{_*_, _+_, _-_, _/_, _<_, _%_, _^_, _≤_, min, suc, zero, ℕ}
 use native.Mathlib.Nat.{div-add-mod', div-div-eq-div-mul, div-eq-of-lt, div-one, div-self, mod-lt, mul-div-cancel, mul-mod-left, pow-succ'}
 use native.Mathlib.Nat.{zero-div}
@@ -99,6 +100,13 @@ first-taken (suc k) m h l = go (m % 2) refl (first-taken k (m / 2))
         subst (Taken m 0) (sym (left-here m odd)) (taken-here m odd)
 
 -- ---- marks one after the other
+-- the first flag that is marked, and the marks without it, as the code computes them
+abbrev pub firstMark : ℕ → ℕ
+firstMark marks = trailingZeros 64 marks
+
+abbrev pub laterMarks : ℕ → ℕ
+laterMarks marks = bitAnd marks (marks - 1)
+
 -- of the marks of a row of so many flags, those before n are taken
 pub record Rest (size all n marks : ℕ) : Type 0 where
   pub small : size ≤ 16
@@ -121,31 +129,28 @@ pub rest-ends : (size all n marks : ℕ) → Rest size all n marks → marks ≡
 rest-ends size all n marks r e b h = r .left b h (ap (λ x. markAt x b) e ∙ no-mark b)
 
 -- the first of those left, and the others
-module _ (size all n marks : ℕ) (r : Rest size all n marks) (some : (marks ≡ 0 → ⊥)) {first left : ℕ} (e : first ≡ trailingZeros 64 marks)
-    (e′ : left ≡ bitAnd marks (marks - 1)) where
-  taken-first : Taken marks first left
-  taken-first =
-      subst₂ (Taken marks) (sym e) (sym e′)
-      (first-taken 64 marks (omega arith) (omega (arith, r .few, pow-mono {i = size} {j = 16} (r .small))))
+module _ (size all n marks : ℕ) (r : Rest size all n marks) (some : (marks ≡ 0 → ⊥)) where
+  taken-first : Taken marks (firstMark marks) (laterMarks marks)
+  taken-first = first-taken 64 marks (omega arith) (omega (arith, r .few, pow-mono {i = size} {j = 16} (r .small)))
 
-  pub first-below : first < size
-  first-below = go (ltb first size) refl
+  pub first-below : firstMark marks < size
+  first-below = go (ltb (firstMark marks) size) refl
     where
-      go : (c : Bool) → ltb first size ≡ c → first < size
-      go true h = ltb-true first size h
-      go false h = absurd (omega (arith, taken-first .here, high-mark size marks first (r .few) (ltb-false first size h)))
+      go : (c : Bool) → ltb (firstMark marks) size ≡ c → firstMark marks < size
+      go true h = ltb-true (firstMark marks) size h
+      go false h = absurd (omega (arith, taken-first .here, high-mark size marks (firstMark marks) (r .few) (ltb-false (firstMark marks) size h)))
 
-  pub first-onward : n ≤ first
-  first-onward = go (ltb first n) refl
+  pub first-onward : n ≤ firstMark marks
+  first-onward = go (ltb (firstMark marks) n) refl
     where
-      go : (c : Bool) → ltb first n ≡ c → n ≤ first
-      go true h = absurd (omega (arith, taken-first .here, r .taken first (ltb-true first n h)))
-      go false h = ltb-false first n h
+      go : (c : Bool) → ltb (firstMark marks) n ≡ c → n ≤ firstMark marks
+      go true h = absurd (omega (arith, taken-first .here, r .taken (firstMark marks) (ltb-true (firstMark marks) n h)))
+      go false h = ltb-false (firstMark marks) n h
 
-  pub none-between : (b : ℕ) → n ≤ b → b < first → markAt all b ≡ 0
+  pub none-between : (b : ℕ) → n ≤ b → b < firstMark marks → markAt all b ≡ 0
   none-between b h l = r .left b h (taken-first .below b l)
 
-  pub rest-onward : Rest size all (first + 1) left
+  pub rest-onward : Rest size all (firstMark marks + 1) (laterMarks marks)
   rest-onward = record {
     small = r .small;
     far = omega (arith, first-below);
@@ -155,8 +160,8 @@ module _ (size all n marks : ℕ) (r : Rest size all n marks) (some : (marks ≡
   }
 
 -- there are fewer
-pub fewer-marks : (marks : ℕ) {left : ℕ} → (marks ≡ 0 → ⊥) → left ≡ bitAnd marks (marks - 1) → left < marks
-fewer-marks marks some e = omega (arith, and-le-r marks (marks - 1))
+pub fewer-marks : (marks : ℕ) → (marks ≡ 0 → ⊥) → laterMarks marks < marks
+fewer-marks marks some = omega (arith, and-le-r marks (marks - 1))
 
 -- ---- a mark that is added
 or-marks : (m k b : ℕ) → markAt (bitOr m k) b ≡ bitOr (markAt m b) (markAt k b)

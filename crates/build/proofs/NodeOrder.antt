@@ -1,4 +1,5 @@
--- The building by the tree records in order is the building by the tree.
+-- The building by the tree records in order is the building by the tree. The idea: one record does to the stack of slots what it does to
+-- the stack of trees, so that the slots on the stack are those of the unjoined subtrees.
 -- First records in two parts, for a loop that has passed the first; then the stack after any records, and after all of them; last
 -- what the tests at a branch give.
 use mathlib.Core.Bool.{Bool, cond, false, true}

@@ -59,11 +59,11 @@ module _ (input : List ℕ) (t : State) (work batch : List ℕ) where
         }
 
     -- an accepting state's slot is united on the right
-    united-more : found ≡ true → q < t .states → {places slot set : ℕ} {m′ : Made} {batch₂ : List ℕ} → places ≡ 2 ^ t .arity - 1
-        → slot ≡ rowFrom t (t .top) q + places → set ≡ slotAt work slot
-        → Makes (unionRecord (t .node) places (setIn (m .set)) (setIn set)) 1 (t .from) (m .count) batch₁ m′ batch₂
+    united-more : found ≡ true → q < t .states → {places slot : ℕ} {m′ : Made} {batch₂ : List ℕ} → places ≡ 2 ^ t .arity - 1
+        → slot ≡ rowFrom t (t .top) q + places
+        → Makes (unionRecord (t .node) places (setIn (m .set)) (setIn (slotAt work slot))) 1 (t .from) (m .count) batch₁ m′ batch₂
         → UnitedTo input t work (q + 1) batch m′ batch₂
-    united-more one hq {places} {slot} {set} {m′} {batch₂} e₁ e₂ e₃ u slots f = record {
+    united-more one hq {places} {slot} {m′} {batch₂} e₁ e₂ u slots f = record {
       makes = λ base w.
           next slots (base ++ recordsIn (t .count) batch)
           ∙ accept-here recordSets (queryIn input) (t .node) slots (unitedTo input t slots q (base ++ recordsIn (t .count) batch)) q (accepts ∙ one)
@@ -79,10 +79,9 @@ module _ (input : List ℕ) (t : State) (work batch : List ℕ) where
         all-places : places ≡ all
         all-places = e₁ ∙ ap (λ a. 2 ^ a - 1) (k .arity)
 
-        right : setIn set ≡ slots q all
+        right : setIn (slotAt work slot) ≡ slots q all
         right =
-            ap setIn e₃
-            ∙ ap (λ n. setIn (slotAt work n)) (e₂ ∙ ap (λ b. rowFrom t (t .top) q + b) all-places)
+            ap (λ n. setIn (slotAt work n)) (e₂ ∙ ap (λ b. rowFrom t (t .top) q + b) all-places)
             ∙ sym (f .sets q all hq (omega (arith, all-places, e₁, ones-lt (t .arity))))
 
         united : Makes (λ table. unionRecord (t .node) all ((unitedTo input t slots q table) .1) (slots q all) ((unitedTo input t slots q table) .0))
@@ -110,7 +109,8 @@ root-ready input t work made s q hq = record {
       subst₂ (λ r b. (r + (b - 1) < length work) × (slotAt work (r + (b - 1)) ≤ t .from + t .count + 1)) (sym e₁) (sym e₂) at-places;
 }
   where
-    at-places : (rowFrom t (t .top) q + (2 ^ t .arity - 1) < length work) × (slotAt work (rowFrom t (t .top) q + (2 ^ t .arity - 1)) ≤ t .from + t .count + 1)
+    at-places : (rowFrom t (t .top) q + (2 ^ t .arity - 1) < length work)
+        × (slotAt work (rowFrom t (t .top) q + (2 ^ t .arity - 1)) ≤ t .from + t .count + 1)
     at-places =
         let size : ℕ = width (t .arity) (t .states) in
         let b : ℕ = 2 ^ t .arity - 1 in
@@ -131,14 +131,14 @@ module _ (input : List ℕ) (t : State) (work : List ℕ) (k : Constants input t
     unites = λ first done. united-skip input t work first k q found e m batch done (not-true found none);
   }
 
-  pub next-united : not found ≡ false → q < t .states → {row size set : ℕ} {m′ : Made} {batch′ : List ℕ} → row ≡ rowFrom t (t .top) q
-      → size ≡ 2 ^ t .arity → set ≡ slotAt work (row + (size - 1))
-      → Makes (unionRecord (t .node) (size - 1) (setIn (m .set)) (setIn set)) 1 (t .from) (m .count) batch m′ batch′
+  pub next-united : not found ≡ false → q < t .states → {row size : ℕ} {m′ : Made} {batch′ : List ℕ} → row ≡ rowFrom t (t .top) q
+      → size ≡ 2 ^ t .arity
+      → Makes (unionRecord (t .node) (size - 1) (setIn (m .set)) (setIn (slotAt work (row + (size - 1))))) 1 (t .from) (m .count) batch m′ batch′
       → UnitesNext input t work q m batch m′ batch′
-  next-united one hq {row} {size} e₁ e₂ e₃ u = record {
+  next-united one hq {row} {size} e₁ e₂ u = record {
     more = omega (arith, u .more);
     few = omega (arith, u .few);
     at-hand = u .at-hand;
     unites = λ first done.
-        united-more input t work first k q found e m batch done (not-false found one) hq (ap (λ b. b - 1) e₂) (ap (λ r. r + (size - 1)) e₁) e₃ u;
+        united-more input t work first k q found e m batch done (not-false found one) hq (ap (λ b. b - 1) e₂) (ap (λ r. r + (size - 1)) e₁) u;
   }

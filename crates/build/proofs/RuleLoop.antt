@@ -1,5 +1,5 @@
--- The loop over the rules of a node: where the building stands after some of them, that one more goes on from there, and that the turn
--- is done where no rule or no room is left.
+-- The loop over the rules of a node, a leaf's and a branch's: where the building stands after some of them, that one more goes on from
+-- there, and that the turn is done where no rule or no room is left.
 use mathlib.Core.List.{List, _++_}
 use mathlib.Core.Logic.{_⊎_, inl, inr, ⊎-elim}
 use mathlib.Core.Path.{_∙_, _≡_, ap, refl, subst, sym}

@@ -1,5 +1,5 @@
 -- At a node the rules go in file order: a loop over the records of the query behind the head, that stands at a position.
--- For a leaf and then for a branch: a record that does not match, records that do not match, a record that does, the end.
+-- For a leaf and then for a branch: a record that does not match, records that do not match, a record that does.
 use mathlib.Core.Bool.{Bool, cond, false, true, _||_}
 use mathlib.Core.List.{List, List·Memᴰ·tail, [], _++_, _∷_}
 use mathlib.Core.Path.{_∙_, _≡_, ap, refl, sym}

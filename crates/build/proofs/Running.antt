@@ -1,5 +1,6 @@
 -- The splits of a rule done in the numbers: the flags of a loop that has come so far, rows of work, and then the runs: no split, one,
--- one that is skipped, and one list of flags after the other. B and W are the batch and the work, a prime is afterwards.
+-- one that is skipped, and one list of flags after the other. The idea: the rule writes its own row alone, so that the children's rows,
+-- which stand before it, are the same for every split. B and W are the batch and the work, a prime is afterwards.
 use mathlib.Core.Bool.{Bool, _&&_, _||_, cond, false, true}
 use mathlib.Core.List.{List, [], _∷_, _++_, append-assoc, append-nil}
 use mathlib.Core.Path.{_∙_, _≡_, ap, refl, subst, sym}

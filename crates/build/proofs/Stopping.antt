@@ -1,4 +1,5 @@
 -- The last turn: the root's slots are united, and the building stops with the set that the paper's building makes, or past the limit.
+-- First that no node is behind, so that the stack has the root's slots alone; then the turn.
 use mathlib.Core.Bool.{Bool, cond, false, false≢true, true, true≢false}
 use mathlib.Core.List.{List, [], _++_, _∷_, tail-eq-of-cons-eq}
 use mathlib.Core.Path.{_∙_, _≡_, ap, refl, subst, sym}
@@ -20,7 +21,7 @@ use Rattle.build.specs.Roots.{UnitedTo, unitedTo}
 use Rattle.build.specs.Standing.{Filling, Standing, State, Stepped, stackLeft}
 use Rattle.build.specs.States.{counted, ended, more, stopped}
 use Rattle.build.proofs.Accepting.{made-end, root-last}
-use Rattle.build.proofs.Limits.{constants-stay, more-records, some-left}
+use Rattle.build.proofs.Limits.{constants-stay, more-records, some-left, stops-past}
 use Rattle.build.proofs.NodeEnd.{node-passed}
 use Rattle.build.proofs.NodeOrder.{node-order}
 use Rattle.build.proofs.Present.{few-states-here, node-of}
@@ -90,21 +91,7 @@ module _ (input : List ℕ) (t : State) (work batch : List ℕ) (base : List Rec
   made-many = omega (arith, ap (λ z. length (z .0)) result, more-records base (m .count) batch′, f .start)
 
   past-limit : t .limit - t .from < m .count → Stepped input t work base (ended (stopped t) (m .set)) work batch′
-  past-limit h = record {
-    limit = refl;
-    asked = refl;
-    rest = refl;
-    from = sym (f .start);
-    count = omega arith;
-    fits = omega (arith, f .few);
-    goes = λ e. absurd (false≢true e);
-    stops = λ e. record {
-      constants = constants-stay input t (ended (stopped t) (m .set)) refl refl refl refl refl refl (s .constants);
-      done = λ w. absurd (true≢false w);
-      past = λ w. (omega (arith, made-many, f .few), refl);
-    };
-    falls = some-left input t work (base ++ recordsIn (t .count) batch) s;
-  }
+  past-limit h = stops-past input t work batch base f (m .set) refl (omega (arith, made-many, f .few))
 
   within-limit : m .count ≤ t .limit - t .from → Stepped input t work base (ended (more t (m .count) (t .rule)) (m .set)) work batch′
   within-limit h = record {

@@ -1,73 +1,52 @@
 -- The turns with one batch: where the building stands after some of them, that one more goes on from there, and that the step is done
 -- where the building has stopped or no room is left. t is where the batch was empty.
 use mathlib.Core.Bool.{false, true, true≢false}
-use mathlib.Core.List.{List, _++_, append-nil}
+use mathlib.Core.List.{List, append-nil}
 use mathlib.Core.Logic.{_⊎_, inl, inr, ⊎-elim}
-use mathlib.Core.Path.{_∙_, _≡_, ap, refl, subst, sym}
+use mathlib.Core.Path.{_∙_, _≡_, ap, refl, subst, subst₂, sym}
 use Prim.Native.Nat.{_+_, _<_, _≤_, ℕ}
 use native.Mathlib.Omega.{arith}
 use lib.ListN.{drop, length}
 use Rattle.build.specs.Batch.{Record, recordsIn}
-use Rattle.build.specs.Standing.{AtRule, Filling, Standing, State, Stepped, Stopped, turnsLeft}
+use Rattle.build.specs.Standing.{AtRule, Filling, Standing, State, Stepped}
 use Rattle.build.specs.States.{emptied}
 use Rattle.build.proofs.Limits.{constants-stay}
 
--- some turns are done, or none yet
-pub record Filled (input : List ℕ) (t : State) (work : List ℕ) (base : List Record) (s : State) (work′ batch′ : List ℕ) : Type 0 where
-  limit : s .limit ≡ t .limit
-  asked : s .asked ≡ t .asked
-  rest : drop (t .asked) work′ ≡ drop (t .asked) work
-  from : s .from ≡ length base
-  count : s .count ≤ 648
-  fits : s .from + s .count ≤ s .limit
-  goes : s .going ≡ true → Standing input s work′ (base ++ recordsIn (s .count) batch′)
-  stops : s .going ≡ false → Stopped input s (base ++ recordsIn (s .count) batch′)
-  falls : (s ≡ t) ⊎ (turnsLeft input s < turnsLeft input t)
+-- no turn is done yet, or some are
+abbrev pub Filled : List ℕ → State → List ℕ → List Record → State → List ℕ → List ℕ → Type 0
+Filled input t work base s work′ batch′ =
+    ((s ≡ t) × (work′ ≡ work) × Filling input s work′ batch′ base) ⊎ Stepped input t work base s work′ batch′
 
 module _ (input : List ℕ) (t : State) (work : List ℕ) (base : List Record) where
-  pub filled-starts : (batch : List ℕ) → Filling input t work batch base → t .count ≡ 0 → Filled input t work base t work batch
-  filled-starts batch f none = record {
-    limit = refl;
-    asked = refl;
-    rest = refl;
-    from = sym (f .start);
-    count = omega arith;
-    fits = f .few;
-    goes = λ e. f .standing;
-    stops = λ e. absurd (true≢false (sym (f .standing .going) ∙ e));
-    falls = inl refl;
+  -- turns after turns
+  then-stepped : {s s″ : State} {work′ batch′ work″ batch″ : List ℕ} → Stepped input t work base s work′ batch′
+      → Stepped input s work′ base s″ work″ batch″ → Stepped input t work base s″ work″ batch″
+  then-stepped {work′ = work′} {work″ = work″} r d = record {
+    limit = d .limit ∙ r .limit;
+    asked = d .asked ∙ r .asked;
+    rest = subst (λ n. drop n work″ ≡ drop n work′) (r .asked) (d .rest) ∙ r .rest;
+    from = d .from;
+    count = d .count;
+    fits = d .fits;
+    goes = d .goes;
+    stops = d .stops;
+    falls = omega (arith, d .falls, r .falls);
   }
+
+  pub filled-starts : (batch : List ℕ) → Filling input t work batch base → Filled input t work base t work batch
+  filled-starts batch f = inl (refl, refl, f)
 
   module _ {s : State} {work′ batch′ : List ℕ} (r : Filled input t work base s work′ batch′) where
     pub filled-filling : s .going ≡ true → Filling input s work′ batch′ base
-    filled-filling going = record { standing = r .goes going; start = sym (r .from); few = r .fits }
+    filled-filling going = ⊎-elim (λ w. w .2) (λ d. record { standing = d .goes going; start = sym (d .from); few = d .fits }) r
 
     pub filled-onward : {s″ : State} {work″ batch″ : List ℕ} → Stepped input s work′ base s″ work″ batch″
         → Filled input t work base s″ work″ batch″
-    filled-onward {work″ = work″} d = record {
-      limit = d .limit ∙ r .limit;
-      asked = d .asked ∙ r .asked;
-      rest = subst (λ n. drop n work″ ≡ drop n work′) (r .asked) (d .rest) ∙ r .rest;
-      from = d .from;
-      count = d .count;
-      fits = d .fits;
-      goes = d .goes;
-      stops = d .stops;
-      falls = inr (⊎-elim (λ e. omega (arith, d .falls, ap (turnsLeft input) e)) (λ l. omega (arith, d .falls)) (r .falls));
-    }
+    filled-onward {s″} {work″} {batch″} d =
+        inr (⊎-elim (λ w. subst₂ (λ x y. Stepped input x y base s″ work″ batch″) (w .0) (w .1) d) (λ w. then-stepped w d) r)
 
     pub filled-ends : t .going ≡ true → t .count ≡ 0 → (s .going ≡ false) ⊎ (324 < s .count) → Stepped input t work base s work′ batch′
-    filled-ends going none ended = record {
-      limit = r .limit;
-      asked = r .asked;
-      rest = r .rest;
-      from = r .from;
-      count = r .count;
-      fits = r .fits;
-      goes = r .goes;
-      stops = r .stops;
-      falls = ⊎-elim (λ e. absurd (not-at-once e)) (λ l. l) (r .falls);
-    }
+    filled-ends going none ended = ⊎-elim (λ w. absurd (not-at-once (w .0))) (λ w. w) r
       where
         not-at-once : s ≡ t → ⊥
         not-at-once e =
@@ -76,6 +55,7 @@ module _ (input : List ℕ) (t : State) (work : List ℕ) (base : List Record) w
 -- ---- from where all records are in the table
 module _ (input : List ℕ) (t : State) (work batch : List ℕ) (made : List Record) (s : Standing input t work made) where
   pub emptied-filling : t .from + t .count ≤ t .limit → Filling input (emptied t) work batch made
+  unfolding recordsIn
   emptied-filling few = record {
     standing = record {
       going = s .going;

@@ -1,5 +1,6 @@
--- The two loops over flags: that there is room for a turn, what it adds to the flags that are done, and that the flags that are not
--- marked need no turn. First the loop over the right flags, then that over the left ones, and with it the rule.
+-- The two loops over flags: that there is room for a turn, and what it adds to the flags that are done. First the loop over the right
+-- flags, then that over the left ones, and with it the rule. The idea: all flags below a position are done; a flag with no mark has an
+-- empty slot and changes nothing, so that the position may be moved on to the next mark, and behind the last mark to the end.
 -- B and W are the batch and the work where the loop begins, B′ and W′ what they are now.
 use mathlib.Core.Bool.{Bool, false, true}
 use mathlib.Core.List.{List, [], _++_, _∷_, append-nil}
@@ -9,7 +10,6 @@ use native.Mathlib.Nat.{pow-le-pow-right}
 use native.Mathlib.Omega.{arith}
 use borrow.Author.Tests.{eq-eqb, eqb-false, eqb-true}
 use lib.Bits.{bitAnd, or-disjoint, or-lt}
-use lib.Count.{trailingZeros}
 use lib.Dec.{eqb}
 use lib.ListN.{length, length-append}
 use lib.Pow.{pow-mono, pow-pos}
@@ -18,11 +18,17 @@ use Rattle.laws.proofs.Bound.{few-beside}
 use Rattle.build.specs.Batch.{recordsIn}
 use Rattle.build.specs.Rules.{Branch, Branches, FlagsOf, OneRow, Room, Runs, Stands, Unites, flagsAt, pairAt, splitsRun}
 use Rattle.build.specs.Slots.{marksAt, slotAt}
-use Rattle.build.proofs.Marks.{Rest, first-below, first-onward, none-between, rest-ends, rest-onward, rest-starts}
+use Rattle.build.proofs.Marks.{Rest, first-below, first-onward, firstMark, laterMarks, none-between, rest-ends, rest-onward, rest-starts}
 use Rattle.build.proofs.Running.{each-le, each-upTo, flags-apart, flags-none, flags-shared, low-stays, marked-stays, none-run, one-run}
 use Rattle.build.proofs.Running.{run-others, same-set, skipped-left, skipped-right, then-run}
 
 -- ---- flags
+-- what each flag from n on hands on to the next, comes to m
+climbs : (P : ℕ → Type 0) (d n m : ℕ) → n + d ≡ m → ((b : ℕ) → n ≤ b → b < m → P b → P (b + 1)) → P n → P m
+climbs P zero n m e step here = subst P (let w : n ≡ m = omega arith in w) here
+climbs P (suc d) n m e step here =
+    climbs P d (n + 1) m (omega arith) (λ b l u. step b (omega arith) u) (step n (omega arith) (omega arith) here)
+
 pub size-small : (size : ℕ) → FlagsOf size → size ≤ 16
 size-small size f = omega (arith, f .powers, pow-mono (f .small))
 
@@ -87,13 +93,12 @@ module _ {rule : Branch} {k : ℕ} {B W : List ℕ} {b₁ n count : ℕ} {B′ W
       sum-below (rule .size) (rule .own + b₁) n (room .flags) left-sum right-flag e
 
   -- a split has room
-  pub split-room : bitAnd (rule .own + b₁) n ≡ 0 → k + 4 * length (flagsAt (rule .own) (rule .size) b₁) ≤ 648 → {l r : ℕ}
-      → l ≡ slotAt W (rule .left + b₁) → r ≡ slotAt W′ (rule .right + n)
+  pub split-room : bitAnd (rule .own + b₁) n ≡ 0 → k + 4 * length (flagsAt (rule .own) (rule .size) b₁) ≤ 648
       → ((5 * count + 20 ≤ length B′) × (rule .used + count ≤ 60644))
       × (((rule .own + b₁ + n < 16) × (rule .node < 65536))
-      × (((l ≤ rule .used + count + 1) × (r ≤ rule .used + count + 1))
+      × (((slotAt W (rule .left + b₁) ≤ rule .used + count + 1) × (slotAt W′ (rule .right + n) ≤ rule .used + count + 1))
       × ((rule .to + (rule .own + b₁ + n) < length W′) × (slotAt W′ (rule .to + (rule .own + b₁ + n)) ≤ rule .used + count + 1))))
-  split-room e few el er =
+  split-room e few =
       let below = flag-below e in
       let f : count + 4 ≤ 648 =
       omega (
@@ -128,12 +133,13 @@ module _ {rule : Branch} {k : ℕ} {B W : List ℕ} {b₁ n count : ℕ} {B′ W
   with-empty e z = one-more count B′ W′ e (skipped-right count B′ W′ (here .low) b₁ n right-flag z)
 
   -- a split, united with its slot
-  pub with-split : bitAnd (rule .own + b₁) n ≡ 0 → {l r : ℕ} → l ≡ slotAt W (rule .left + b₁) → r ≡ slotAt W′ (rule .right + n)
-      → (l ≡ 0 → ⊥) → (r ≡ 0 → ⊥) → (c : ℕ) (B″ W″ : List ℕ) → Unites rule b₁ n l r count B′ W′ c B″ W″
+  pub with-split : bitAnd (rule .own + b₁) n ≡ 0 → (slotAt W (rule .left + b₁) ≡ 0 → ⊥) → (slotAt W′ (rule .right + n) ≡ 0 → ⊥)
+      → (c : ℕ) (B″ W″ : List ℕ) → Unites rule b₁ n (slotAt W (rule .left + b₁)) (slotAt W′ (rule .right + n)) count B′ W′ c B″ W″
       → Runs (flagsAt (rule .own) (n + 1) b₁) rule k B W c B″ W″
-  with-split e {l} {r} el er nl nr c B″ W″ u =
+  with-split e nl nr c B″ W″ u =
       one-more c B″ W″ e
-      (one-run count B′ W′ (here .low) b₁ n l r c B″ W″ left-flag right-flag (flag-below e) (same-left ∙ sym el) (sym er) nl nr u)
+      (one-run count B′ W′ (here .low) b₁ n (slotAt W (rule .left + b₁)) (slotAt W′ (rule .right + n)) c B″ W″ left-flag right-flag (flag-below e)
+      same-left refl nl nr u)
 
 -- ---- the loop over b₂: of the right row's marks some are left, and the flags before them are done
 pub record RightLoop (rule : Branch) (k : ℕ) (B W : List ℕ) (b₁ marks count : ℕ) (B′ W′ : List ℕ) : Type 0 where
@@ -146,13 +152,12 @@ pub record RightLoop (rule : Branch) (k : ℕ) (B W : List ℕ) (b₁ marks coun
 module _ {rule : Branch} {k : ℕ} {B W : List ℕ} (room : Room rule k B W) {b₁ : ℕ} (left-flag : b₁ < rule .size)
     (left-apart : bitAnd (rule .own) b₁ ≡ 0) where
   -- nothing is done yet
-  pub right-starts : {marks : ℕ} → marks ≡ marksAt W (rule .right) → RightLoop rule k B W b₁ marks k B W
-  right-starts e = record {
+  pub right-starts : RightLoop rule k B W b₁ (marksAt W (rule .right)) k B W
+  right-starts = record {
     batch-kept = refl;
     work-kept = refl;
     come = 0;
-    rest = subst (Rest (rule .size) (marksAt W (rule .right)) 0) (sym e)
-        (rest-starts (rule .size) (marksAt W (rule .right)) (size-small (rule .size) (room .flags)) (room .right-marked .few));
+    rest = rest-starts (rule .size) (marksAt W (rule .right)) (size-small (rule .size) (room .flags)) (room .right-marked .few);
     done = none-run k B W (room .low);
   }
 
@@ -179,37 +184,35 @@ module _ {rule : Branch} {k : ℕ} {B W : List ℕ} (room : Room rule k B W) {b�
             (same-set (done .row) (rule .right) (room .right-before) n h ∙ z)
         go false e = with-shared (turn-at n h done) (eqb-false (bitAnd (rule .own + b₁) n) 0 e)
 
-    past-empty : (d n m : ℕ) → n + d ≡ m → m ≤ rule .size → ((b : ℕ) → n ≤ b → b < m → slotAt W (rule .right + b) ≡ 0)
+    past-empty : (n m : ℕ) → n ≤ m → m ≤ rule .size → ((b : ℕ) → n ≤ b → b < m → slotAt W (rule .right + b) ≡ 0)
         → Runs (flagsAt (rule .own) n b₁) rule k B W count B′ W′ → Runs (flagsAt (rule .own) m b₁) rule k B W count B′ W′
-    past-empty zero n m e h z done =
-        subst (λ x. Runs (flagsAt (rule .own) x b₁) rule k B W count B′ W′) (let w : n ≡ m = omega arith in w) done
-    past-empty (suc d) n m e h z done =
-        past-empty d (n + 1) m (omega arith) h (λ b l u. z b (omega arith) u) (one-empty n (omega arith) (z n (omega arith) (omega arith)) done)
+    past-empty n m l h z =
+        climbs (λ x. Runs (flagsAt (rule .own) x b₁) rule k B W count B′ W′) (m - n) n m (omega arith)
+        (λ b from to. one-empty b (omega arith) (z b from to))
 
   module _ {marks count : ℕ} {B′ W′ : List ℕ} (s : RightLoop rule k B W b₁ marks count B′ W′) where
     -- no mark is left
     pub right-ends : marks ≡ 0 → Runs (flagsAt (rule .own) (rule .size) b₁) rule k B W count B′ W′
     right-ends e =
-        past-empty (s .batch-kept) (s .work-kept) (rule .size - s .come) (s .come) (rule .size) (omega (arith, s .rest .far)) (omega arith)
+        past-empty (s .batch-kept) (s .work-kept) (s .come) (rule .size) (s .rest .far) (omega arith)
         (λ b h l. room .right-marked .empty b l (rest-ends _ _ _ _ (s .rest) e b h)) (s .done)
 
-    module _ (some : (marks ≡ 0 → ⊥)) {n : ℕ} (first : n ≡ trailingZeros 64 marks) where
+    module _ (some : (marks ≡ 0 → ⊥)) where
       -- at the first that is left
-      pub right-turn : RightTurn rule k B W b₁ n count B′ W′
+      pub right-turn : RightTurn rule k B W b₁ (firstMark marks) count B′ W′
       right-turn =
-          let below = first-below _ _ _ _ (s .rest) some first refl in
-          turn-at (s .batch-kept) (s .work-kept) n below
-          (past-empty (s .batch-kept) (s .work-kept) (n - s .come) (s .come) n (omega (arith, first-onward _ _ _ _ (s .rest) some first refl))
-          (omega (arith, below))
-          (λ b h l. room .right-marked .empty b (omega (arith, below)) (none-between _ _ _ _ (s .rest) some first refl b h l)) (s .done))
+          let below = first-below _ _ _ _ (s .rest) some in
+          turn-at (s .batch-kept) (s .work-kept) (firstMark marks) below
+          (past-empty (s .batch-kept) (s .work-kept) (s .come) (firstMark marks) (first-onward _ _ _ _ (s .rest) some) (omega (arith, below))
+          (λ b h l. room .right-marked .empty b (omega (arith, below)) (none-between _ _ _ _ (s .rest) some b h l)) (s .done))
 
-      pub right-onward : {left : ℕ} → left ≡ bitAnd marks (marks - 1) → {c : ℕ} {B″ W″ : List ℕ} → length B″ ≡ length B → length W″ ≡ length W
-          → Runs (flagsAt (rule .own) (n + 1) b₁) rule k B W c B″ W″ → RightLoop rule k B W b₁ left c B″ W″
-      right-onward others eb ew done = record {
+      pub right-onward : {c : ℕ} {B″ W″ : List ℕ} → length B″ ≡ length B → length W″ ≡ length W
+          → Runs (flagsAt (rule .own) (firstMark marks + 1) b₁) rule k B W c B″ W″ → RightLoop rule k B W b₁ (laterMarks marks) c B″ W″
+      right-onward eb ew done = record {
         batch-kept = eb;
         work-kept = ew;
-        come = n + 1;
-        rest = rest-onward _ _ _ _ (s .rest) some first others;
+        come = firstMark marks + 1;
+        rest = rest-onward _ _ _ _ (s .rest) some;
         done = done;
       }
 
@@ -269,13 +272,12 @@ pub record LeftLoop (rule : Branch) (k : ℕ) (B W : List ℕ) (marks count : �
   done : Runs (each (upTo come) (flagsAt (rule .own) (rule .size))) rule k B W count B′ W′
 
 module _ {rule : Branch} {k : ℕ} {B W : List ℕ} (room : Room rule k B W) where
-  pub left-starts : {marks : ℕ} → marks ≡ marksAt W (rule .left) → LeftLoop rule k B W marks k B W
-  left-starts e = record {
+  pub left-starts : LeftLoop rule k B W (marksAt W (rule .left)) k B W
+  left-starts = record {
     batch-kept = refl;
     work-kept = refl;
     come = 0;
-    rest = subst (Rest (rule .size) (marksAt W (rule .left)) 0) (sym e)
-        (rest-starts (rule .size) (marksAt W (rule .left)) (size-small (rule .size) (room .flags)) (room .left-marked .few));
+    rest = rest-starts (rule .size) (marksAt W (rule .left)) (size-small (rule .size) (room .flags)) (room .left-marked .few);
     done = none-run k B W (room .low);
   }
 
@@ -284,14 +286,12 @@ module _ {rule : Branch} {k : ℕ} {B W : List ℕ} (room : Room rule k B W) whe
         → LeftTurn rule k B W n count B′ W′
     left-at n h done = record { batch-kept = eb; work-kept = ew; room = room; left-flag = h; done = done }
 
-    past-none : (d n m : ℕ) → n + d ≡ m → m ≤ rule .size → ((b : ℕ) → n ≤ b → b < m → slotAt W (rule .left + b) ≡ 0)
+    past-none : (n m : ℕ) → n ≤ m → m ≤ rule .size → ((b : ℕ) → n ≤ b → b < m → slotAt W (rule .left + b) ≡ 0)
         → Runs (each (upTo n) (flagsAt (rule .own) (rule .size))) rule k B W count B′ W′
         → Runs (each (upTo m) (flagsAt (rule .own) (rule .size))) rule k B W count B′ W′
-    past-none zero n m e h z done =
-        subst (λ x. Runs (each (upTo x) (flagsAt (rule .own) (rule .size))) rule k B W count B′ W′) (let w : n ≡ m = omega arith in w) done
-    past-none (suc d) n m e h z done =
-        past-none d (n + 1) m (omega arith) h (λ b l u. z b (omega arith) u)
-        (with-none (left-at n (omega arith) done) (z n (omega arith) (omega arith)))
+    past-none n m l h z =
+        climbs (λ x. Runs (each (upTo x) (flagsAt (rule .own) (rule .size))) rule k B W count B′ W′) (m - n) n m (omega arith)
+        (λ b from to done. with-none (left-at b (omega arith) done) (z b from to))
 
   -- the flags of both loops: all splits of the rule
   all-done : {count : ℕ} {B′ W′ : List ℕ} → Runs (each (upTo (rule .size)) (flagsAt (rule .own) (rule .size))) rule k B W count B′ W′
@@ -318,24 +318,24 @@ module _ {rule : Branch} {k : ℕ} {B W : List ℕ} (room : Room rule k B W) whe
     pub left-ends : marks ≡ 0 → Branches rule k B W count B′ W′
     left-ends e =
         all-done
-        (past-none (s .batch-kept) (s .work-kept) (rule .size - s .come) (s .come) (rule .size) (omega (arith, s .rest .far)) (omega arith)
+        (past-none (s .batch-kept) (s .work-kept) (s .come) (rule .size) (s .rest .far) (omega arith)
         (λ b h l. room .left-marked .empty b l (rest-ends _ _ _ _ (s .rest) e b h)) (s .done))
 
-    module _ (some : (marks ≡ 0 → ⊥)) {n : ℕ} (first : n ≡ trailingZeros 64 marks) where
-      pub left-turn : LeftTurn rule k B W n count B′ W′
+    module _ (some : (marks ≡ 0 → ⊥)) where
+      pub left-turn : LeftTurn rule k B W (firstMark marks) count B′ W′
       left-turn =
-          let below = first-below _ _ _ _ (s .rest) some first refl in
-          left-at (s .batch-kept) (s .work-kept) n below
-          (past-none (s .batch-kept) (s .work-kept) (n - s .come) (s .come) n (omega (arith, first-onward _ _ _ _ (s .rest) some first refl))
-          (omega (arith, below))
-          (λ b h l. room .left-marked .empty b (omega (arith, below)) (none-between _ _ _ _ (s .rest) some first refl b h l)) (s .done))
+          let below = first-below _ _ _ _ (s .rest) some in
+          left-at (s .batch-kept) (s .work-kept) (firstMark marks) below
+          (past-none (s .batch-kept) (s .work-kept) (s .come) (firstMark marks) (first-onward _ _ _ _ (s .rest) some) (omega (arith, below))
+          (λ b h l. room .left-marked .empty b (omega (arith, below)) (none-between _ _ _ _ (s .rest) some b h l)) (s .done))
 
-      pub left-onward : {left : ℕ} → left ≡ bitAnd marks (marks - 1) → {c : ℕ} {B″ W″ : List ℕ} → length B″ ≡ length B → length W″ ≡ length W
-          → Runs (each (upTo (n + 1)) (flagsAt (rule .own) (rule .size))) rule k B W c B″ W″ → LeftLoop rule k B W left c B″ W″
-      left-onward others eb ew done = record {
+      pub left-onward : {c : ℕ} {B″ W″ : List ℕ} → length B″ ≡ length B → length W″ ≡ length W
+          → Runs (each (upTo (firstMark marks + 1)) (flagsAt (rule .own) (rule .size))) rule k B W c B″ W″
+          → LeftLoop rule k B W (laterMarks marks) c B″ W″
+      left-onward eb ew done = record {
         batch-kept = eb;
         work-kept = ew;
-        come = n + 1;
-        rest = rest-onward _ _ _ _ (s .rest) some first others;
+        come = firstMark marks + 1;
+        rest = rest-onward _ _ _ _ (s .rest) some;
         done = done;
       }

@@ -8,7 +8,7 @@ use Rattle.paper.specs.Building.{Slots, leafStep, productRecord, put, recordSet
 use Rattle.paper.specs.Query.{leafRule}
 use Rattle.build.specs.Batch.{Made, Makes, Record, Set, recordsIn, setIn}
 use Rattle.build.specs.Rules.{Branch, Leaves, OneSlot, Unites, splitAt}
-use Rattle.build.specs.Slots.{Puts, rowAt, slotAt}
+use Rattle.build.specs.Slots.{Puts, rowAt}
 use Rattle.build.proofs.Making.{then-made}
 
 -- a slot with the set that was made
@@ -49,13 +49,14 @@ module _ (rule : Branch) (b₁ b₂ left right k : ℕ) (B : List ℕ) where
       (then-made (rule .used) k B 1 1 (singleRecord n b₀) (λ e. productRecord n (b₀ + b₁) e (setIn left)) m₁ m₂ B₁ B₂ h₁ h₂) h₃
 
   -- united with the slot of the three flags together
-  pub split-united : (W : List ℕ) (m₁ m₂ : Made) (B₁ B₂ W′ : List ℕ) {old : ℕ} → old ≡ slotAt W (rule .to + (rule .own + b₁ + b₂))
+  pub split-united : (W : List ℕ) (m₁ m₂ : Made) (B₁ B₂ W′ : List ℕ)
       → Makes tripled 3 (rule .used) k B m₁ B₁
-      → Makes (unionRecord (rule .node) (rule .own + b₁ + b₂) (setIn old) (setIn (m₁ .set))) 1 (rule .used) (m₁ .count) B₁ m₂ B₂
+      → Makes (unionRecord (rule .node) (rule .own + b₁ + b₂) (rowAt W (rule .to) (rule .own + b₁ + b₂)) (setIn (m₁ .set))) 1
+      (rule .used) (m₁ .count) B₁ m₂ B₂
       → Puts (rule .to) (rule .own + b₁ + b₂) (m₂ .set) W W′
       → Unites rule b₁ b₂ left right k B W (m₂ .count) B₂ W′
-  split-united W m₁ m₂ B₁ B₂ W′ {old} there h₁ h₂ p =
-      record { unites = unites; slot = slot-put (rule .to) flag 4 (rule .used) k B W (make (setIn old)) m₂ B₂ W′ whole p }
+  split-united W m₁ m₂ B₁ B₂ W′ h₁ h₂ p =
+      record { unites = unites; slot = slot-put (rule .to) flag 4 (rule .used) k B W (make (rowAt W (rule .to) flag)) m₂ B₂ W′ whole p }
     where
       flag : ℕ
       flag = rule .own + b₁ + b₂
@@ -63,14 +64,14 @@ module _ (rule : Branch) (b₁ b₂ left right k : ℕ) (B : List ℕ) where
       make : Set → List Record → List Record × Set
       make old t = unionRecord (rule .node) (rule .own + b₁ + b₂) old ((tripled t) .1) ((tripled t) .0)
 
-      whole : Makes (make (setIn old)) 4 (rule .used) k B m₂ B₂
-      whole = then-made (rule .used) k B 3 1 tripled (unionRecord (rule .node) flag (setIn old)) m₁ m₂ B₁ B₂ h₁ h₂
+      whole : Makes (make (rowAt W (rule .to) flag)) 4 (rule .used) k B m₂ B₂
+      whole = then-made (rule .used) k B 3 1 tripled (unionRecord (rule .node) flag (rowAt W (rule .to) flag)) m₁ m₂ B₁ B₂ h₁ h₂
 
       unites : (base : List Record) (slots : Slots Set) (t : ℕ) → length base ≡ rule .used → slots t flag ≡ rowAt W (rule .to) flag
           → unite recordSets (rule .node) t flag slots (tripled (base ++ recordsIn k B))
           ≡ (base ++ recordsIn (m₂ .count) B₂, put slots t flag (rowAt W′ (rule .to) flag))
       unites base slots t e f =
           let u : make (slots t flag) (base ++ recordsIn k B) ≡ (base ++ recordsIn (m₂ .count) B₂, rowAt W′ (rule .to) flag) =
-          ap (λ x. make x (base ++ recordsIn k B)) (f ∙ ap setIn (sym there)) ∙ whole .makes base e
+          ap (λ x. make x (base ++ recordsIn k B)) f ∙ whole .makes base e
           ∙ ap (λ x. (base ++ recordsIn (m₂ .count) B₂, setIn x)) (sym (p .there)) in
           ap (λ w. (w .0, put slots t flag (w .1))) u

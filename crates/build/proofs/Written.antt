@@ -1,17 +1,31 @@
 -- The records of a batch: those before a place that is written stay, and five numbers written behind them are one more record.
 use mathlib.Core.List.{List, [], _∷_, _++_}
-use mathlib.Core.Path.{_∙_, _≡_, ap, ap₂, refl}
+use mathlib.Core.Path.{_∙_, _≡_, ap, ap₂, refl, sym}
 use Prim.Native.Nat.{_*_, _+_, _<_, _≤_, suc, zero, ℕ}
 use native.Mathlib.Numerals.{add-one}
 use native.Mathlib.Omega.{arith}
-use lib.ListN.{getD, length, length-set, set}
+use lib.ListN.{drop, getD, length, length-set, set}
 use lib.Seq.{getD-set-other, getD-set-same}
+use Rattle.table.proofs.Batches.{record-in}
 use Rattle.build.specs.Batch.{Record, recordAt, recordsIn}
+
+-- one more record comes last
+records-more : (k : ℕ) (B : List ℕ) → recordsIn (suc k) B ≡ recordsIn k B ++ (recordAt B k ∷ [])
+unfolding recordsIn
+records-more zero B = refl
+records-more (suc k) B =
+    ap {B = List Record} (λ rs. recordAt B 0 ∷ rs) (records-more k (drop 5 B))
+    ∙ ap {B = List Record} (λ r. recordAt B 0 ∷ (recordsIn k (drop 5 B) ++ (r ∷ []))) last
+  where
+    last : recordAt (drop 5 B) k ≡ recordAt B (suc k)
+    last = sym (record-in (suc k) k (drop 5 B) (omega arith)) ∙ record-in (suc (suc k)) (suc k) B (omega arith)
 
 -- two batches that agree below 5 * k have the same first k records
 same-records : (B B′ : List ℕ) (k : ℕ) → ((i : ℕ) → i < 5 * k → getD B′ i 0 ≡ getD B i 0) → recordsIn k B′ ≡ recordsIn k B
+unfolding recordsIn
 same-records B B′ zero h = refl
-same-records B B′ (suc k) h = ap₂ {C = List Record} (λ rs r. rs ++ (r ∷ [])) (same-records B B′ k (λ i l. h i (omega arith))) last
+same-records B B′ (suc k) h =
+    records-more k B′ ∙ ap₂ {C = List Record} (λ rs r. rs ++ (r ∷ [])) (same-records B B′ k (λ i l. h i (omega arith))) last ∙ sym (records-more k B)
   where
     last : recordAt B′ k ≡ recordAt B k
     last = λ i. record {
@@ -85,6 +99,7 @@ module _ (B : List ℕ) (a : ℕ) (r : Record) where
 pub one-more : (B : List ℕ) (k : ℕ) (r : Record) → 5 * k + 5 ≤ length B → recordsIn (k + 1) (written B (5 * k) r) ≡ recordsIn k B ++ (r ∷ [])
 one-more B k r h =
     ap (λ n. recordsIn n (written B (5 * k) r)) (add-one k)
+    ∙ records-more k (written B (5 * k) r)
     ∙ ap₂ {C = List Record} (λ rs x. rs ++ (x ∷ [])) (same-records B (written B (5 * k) r) k (stays B (5 * k) r)) last
   where
     last : recordAt (written B (5 * k) r) k ≡ r

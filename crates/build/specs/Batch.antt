@@ -1,28 +1,14 @@
--- What the numbers of a batch mean: five numbers make a record, one number is a set. Then what it is to make a set in a batch.
-use mathlib.Core.List.{List, [], _∷_, _++_}
+-- What the numbers of a batch mean: five make a record, as `table` has it, and one is a set. Then what it is to make a set in a batch.
+use mathlib.Core.List.{List, _++_}
 use mathlib.Core.Path.{_≡_}
-use Prim.Native.Nat.{ℕ, zero, suc, _+_, _*_, _≤_}
-use lib.ListN.{getD, length}
+use Prim.Native.Nat.{ℕ, zero, suc, _+_, _≤_}
+use lib.ListN.{length}
 pub use Rattle.paper.specs.declared.Record.{Record}
 pub use Rattle.paper.specs.declared.Set.{Set}
 pub use Rattle.paper.specs.declared.Set.the-variants.{Empty as empty, Unit as unit, Record as at}
+pub use Rattle.table.specs.Batch.{recordAt}
+unfoldable pub use Rattle.table.specs.Batch.{recordsIn}
 pub use Rattle.build.specs.declared.batch.Made.{Made}
-
--- record k: five numbers, in the order of the fields
-abbrev pub recordAt : List ℕ → ℕ → Record
-recordAt numbers k =
-    record {
-      kind = getD numbers (5 * k) 0;
-      node = getD numbers (5 * k + 1) 0;
-      left = getD numbers (5 * k + 2) 0;
-      right = getD numbers (5 * k + 3) 0;
-      flag = getD numbers (5 * k + 4) 0;
-    }
-
--- the first n records that the numbers make
-abbrev pub recordsIn : ℕ → List ℕ → List Record
-recordsIn zero numbers = []
-recordsIn (suc n) numbers = recordsIn n numbers ++ (recordAt numbers n ∷ [])
 
 -- the set that a number is
 abbrev pub setIn : ℕ → Set

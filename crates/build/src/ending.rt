@@ -7,7 +7,7 @@ use crate::batch::Made;
 use crate::batch::union;
 use crate::frame::flags;
 use crate::frame::row_at;
-use crate::slot::set_in;
+use crate::slot::SETS;
 use crate::state::State;
 use crate::state::count_records;
 use stream::is_accepting;
@@ -38,7 +38,7 @@ fn unite_root(
         t.node as u16,
         places,
         made.set,
-        set_in(work[at]),
+        work[at] % SETS,
     )
 }
 

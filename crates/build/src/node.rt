@@ -21,7 +21,7 @@ use stream::body_length;
 use stream::next_rule;
 
 // The rules of a leaf from the next one on, as long as there is room in the batch for the records of one more.
-fn leaf_rules(t: State, input: &[u8], work: &mut [u64], batch: &mut [u16]) -> State
+pub(crate) fn leaf_rules(t: State, input: &[u8], work: &mut [u64], batch: &mut [u16]) -> State
     requires { ⌜ IsFilling (now input) t (now work) (now batch) ⌝ }
     requires { ⌜ (t .rule < length (now input)) × (getD (now input) (t .at) 0 ≡ 1) ⌝ }
     requires { ⌜ (3240 ≤ length (now batch)) × (t .count ≤ 324) ⌝ }
@@ -69,7 +69,7 @@ fn branch_at(t: State, input: &[u8], rule: usize) -> Branch
 }
 
 // The rules of a branch, likewise.
-fn branch_rules(t: State, input: &[u8], work: &mut [u64], batch: &mut [u16]) -> State
+pub(crate) fn branch_rules(t: State, input: &[u8], work: &mut [u64], batch: &mut [u16]) -> State
     requires { ⌜ IsFilling (now input) t (now work) (now batch) ⌝ }
     requires { ⌜ (t .rule < length (now input)) × (getD (now input) (t .at) 0 ≡ 1 → ⊥) ⌝ }
     requires { ⌜ (3240 ≤ length (now batch)) × (t .count ≤ 324) ⌝ }
@@ -85,20 +85,6 @@ fn branch_rules(t: State, input: &[u8], work: &mut [u64], batch: &mut [u16]) -> 
         rule = next_rule(input, rule + 1 + body_length(18), 18, label);
     }
     count_records(t, count, rule)
-}
-
-// The rules of the present node.
-pub(crate) fn node_rules(t: State, input: &[u8], work: &mut [u64], batch: &mut [u16]) -> State
-    requires { ⌜ IsFilling (now input) t (now work) (now batch) ⌝ }
-    requires { ⌜ t .rule < length (now input) ⌝ }
-    requires { ⌜ (3240 ≤ length (now batch)) × (t .count ≤ 324) ⌝ }
-    ensures { λ r. ⌜ Fills (now (input .entry)) t (now (work .entry)) (now (batch .entry)) r (now (work .exit)) (now (batch .exit)) ⌝ }
-{
-    let at = t.at;
-    if input[at] == 1 {
-        return leaf_rules(t, input, &mut *work, &mut *batch);
-    }
-    branch_rules(t, input, &mut *work, &mut *batch)
 }
 
 // The frame of the present node becomes that of a subtree, a branch's in the place of the frames that it joins. How many frames there

@@ -12,11 +12,8 @@ use crate::batch::Made;
 use crate::batch::product;
 use crate::batch::single;
 use crate::batch::union;
-use crate::slot::first_mark;
-use crate::slot::later_marks;
-use crate::slot::marks_in;
+use crate::slot::SETS;
 use crate::slot::put_set;
-use crate::slot::set_in;
 
 // A branch rule at a node: the records in the table, the node, how many flags there are, the rule's own flag, and where in work the
 // rows of its left state, its right state and the state that it names start.
@@ -97,7 +94,7 @@ fn split(
     let node = rule.node as u16;
     let flag = rule.own + b1 + b2;
     let to = rule.to;
-    let old = set_in(work[to + flag]);
+    let old = work[to + flag] % SETS;
     let made = triple(&mut *batch, k, rule, b1, b2, left, right);
     let whole = union(&mut *batch, made.count, used, node, flag, old, made.set);
     put_set(&mut *work, to, flag, whole.set);
@@ -105,7 +102,7 @@ fn split(
 }
 
 // The splits of a branch rule whose left flag is b1, unless the left child's slot is empty: for each b2 ascending that shares no bit
-// and at which the right child's slot is not empty.
+// and at which the right child's slot is not empty. Such a b2 is marked: the marks of the right row are taken one by one, the first first.
 fn beside(batch: &mut [u16], work: &mut [u64], k: usize, rule: Branch, b1: usize) -> usize
     requires { ⌜ Room rule k (now batch) (now work) ⌝ }
     requires { ⌜ (b1 < rule .size) × (bitAnd (rule .own) b1 ≡ 0) ⌝ }
@@ -115,39 +112,40 @@ fn beside(batch: &mut [u16], work: &mut [u64], k: usize, rule: Branch, b1: usize
 {
     let left = rule.left;
     let right = rule.right;
-    let here = set_in(work[left + b1]);
+    let here = work[left + b1] % SETS;
     if here == 0 {
         return k;
     }
     let mut count = k;
-    let mut marks = marks_in(work[right]);
+    let mut marks = work[right] / SETS;
     while marks != 0 {
-        let b2 = first_mark(marks);
+        let b2 = u64::trailing_zeros(marks) as usize;
         if ((rule.own + b1) & b2) == 0 {
-            let there = set_in(work[right + b2]);
+            let there = work[right + b2] % SETS;
             if there != 0 {
                 count = split(&mut *batch, &mut *work, count, rule, b1, b2, here, there);
             }
         }
-        marks = later_marks(marks);
+        marks = marks & (marks - 1);
     }
     count
 }
 
-// A branch rule that matches: its splits, for each b1 ascending that shares no bit with the own flag and then for each such b2.
+// A branch rule that matches: its splits, for each b1 ascending that shares no bit with the own flag and then for each such b2. The
+// marks of the left row are taken likewise.
 pub(crate) fn branch_rule(batch: &mut [u16], work: &mut [u64], k: usize, rule: Branch) -> usize
     requires { ⌜ Room rule k (now batch) (now work) × (k ≤ 324) ⌝ }
     ensures { λ r. ⌜ Branches rule k (now (batch .entry)) (now (work .entry)) r (now (batch .exit)) (now (work .exit)) ⌝ }
 {
     let left = rule.left;
     let mut count = k;
-    let mut marks = marks_in(work[left]);
+    let mut marks = work[left] / SETS;
     while marks != 0 {
-        let b1 = first_mark(marks);
+        let b1 = u64::trailing_zeros(marks) as usize;
         if (rule.own & b1) == 0 {
             count = beside(&mut *batch, &mut *work, count, rule, b1);
         }
-        marks = later_marks(marks);
+        marks = marks & (marks - 1);
     }
     count
 }

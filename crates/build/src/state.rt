@@ -1,7 +1,7 @@
 // Where the building stands between two turns.
 ghost use mathlib.Core.Path.{_≡_};
-ghost use Prim.Native.Nat.{_+_, _≤_};
-ghost use Rattle.build.specs.States.{counted, emptied};
+ghost use Prim.Native.Nat.{_≤_};
+ghost use Rattle.build.specs.States.{counted};
 
 // `from` is where the batch goes in the table, `count` how many records it has. `at` is where the record of the present node stands,
 // `top` how many frames are below its own, `rule` where its next matching rule stands: the end of the input where none is left. `set`
@@ -39,16 +39,5 @@ pub(crate) fn count_records(t: State, count: usize, rule: usize) -> State
     }
     next.count = count;
     next.rule = rule;
-    next
-}
-
-// With an empty batch: what it had is in the table.
-pub(crate) fn empty_batch(t: State) -> State
-    requires { ⌜ t .from + t .count ≤ 60000 ⌝ }
-    ensures { λ r. ⌜ r ≡ emptied t ⌝ }
-{
-    let mut next = t;
-    next.from = t.from + t.count;
-    next.count = 0;
     next
 }

@@ -330,9 +330,11 @@ module _ {M : Type 1} (𝓤 : URA M) (H : Heap 𝓤) (A : Atoms 𝓤) (W : Given
             (whole-face input work table s w₁ g e t w d long₁ long r (us .1 .0) f)
             (λ over t′ blank-now. over-face input work table s w₁ g e t w d long₁ long r (us .1 .0) f over t′ table-long blank-now)))))
 
-        arms : (g : Begun) (w : List ℕ) → Is G.the-row g (G′.lowered g ∷ []) → length w ≡ length work → Begins input work (length table) g w
-            → Sq W (Begun-context g w) (runs (𝓣 .C) (𝓣 .Λ) env body.t-5 (atRet env Post))
-        arms (BegunIs.Refused r) w good long e =
+        -- the arm of a refusal
+        refuses : (r : Refusal) (w : List ℕ) → Is G.the-row (BegunIs.Refused r) (G′.lowered (BegunIs.Refused r) ∷ []) → length w ≡ length work
+            → Begins input work (length table) (BegunIs.Refused r) w
+            → Sq W (Begun-context (BegunIs.Refused r) w) (runs (𝓣 .C) (𝓣 .Λ) env body.t-5 (atRet env Post))
+        refuses r w good long e =
             first ! $ by-variants ! 26 (whole !) (load ! (from ! (vrt ! refl (fld ! refl (stop !)))) (look-tag ! 26 (whole !))) tt (
               (λ h.
                   sets ! 16 refl (of-opd ! (load ! (from ! (vrt ! refl (fld ! refl (stop !)))) (look-in ! 26 (in-variant ! 1 0 refl refl (whole !)))))
@@ -347,7 +349,12 @@ module _ {M : Type 1} (𝓤 : URA M) (H : Heap 𝓤) (A : Atoms 𝓤) (W : Given
                   by ! (exits (Refused r) w table (answer-good r good) long refl (refused-face input work table r w e))),
               ((λ h. absurd (omega (arith, h))), tt),
             )
-        arms (BegunIs.Going s) w good long e =
+
+        -- the arm of a build that begins: the batch is made, and the table, the work and the batch are lent to `drive`
+        goes-on : (s : State) (w : List ℕ) → Is G.the-row (BegunIs.Going s) (G′.lowered (BegunIs.Going s) ∷ []) → length w ≡ length work
+            → Started input work (length table) s w
+            → Sq W (Begun-context (BegunIs.Going s) w) (runs (𝓣 .C) (𝓣 .Λ) env body.t-5 (atRet env Post))
+        goes-on s w good long e =
             first ! $ by-variants ! 26 (whole !) (load ! (from ! (vrt ! refl (fld ! refl (stop !)))) (look-tag ! 26 (whole !))) tt (
               (λ h. absurd (omega (arith, h))),
               (
@@ -362,7 +369,6 @@ module _ {M : Type 1} (𝓤 : URA M) (H : Heap 𝓤) (A : Atoms 𝓤) (W : Given
                     sets ! 40 refl (agg ! (and-then ! (value ! 38 refl) (and-then ! (part ! 11 refl refl refl) (no-more !)))) (slice-typed (work-room .0)) $
                     sets ! 42 refl (addr ! (from ! (stop !))) (tt, tt) $
                     sets ! 44 refl (agg ! (and-then ! (value ! 42 refl) (and-then ! (big-lit (record { fits = lit< tt })) (no-more !)))) (slice-typed (lit< tt)) $
-                    -- the table, the work and the batch are lent to `drive`
                     move ! (1 ∷ 2 ∷ []) $ lends ! tt Entry b o table (length table) refl (λ ν δ.
                     move ! (5 ∷ 6 ∷ []) $ lends ! tt u64 bʷ oʷ w (length work) long (λ νʷ δʷ.
                     move ! (8 ∷ []) $ lends-array ! tt (numbers w16) batch-block (copies 3240 0) 3240 (lit< tt, lit< tt) (length-copies {X = ℕ} 3240 0) (λ νᵇ δᵇ.
@@ -394,6 +400,11 @@ module _ {M : Type 1} (𝓤 : URA M) (H : Heap 𝓤) (A : Atoms 𝓤) (W : Given
           where
             first-ready : (s : State) (w : List ℕ) → Started input work (length table) s w → Ready input table s w (copies 3240 0)
             first-ready s w e = ready input work table s w e (copies 3240 0) (subst (λ (n : ℕ). 3240 ≤ n) (sym (length-copies {X = ℕ} 3240 0)) (omega arith))
+
+        arms : (g : Begun) (w : List ℕ) → Is G.the-row g (G′.lowered g ∷ []) → length w ≡ length work → Begins input work (length table) g w
+            → Sq W (Begun-context g w) (runs (𝓣 .C) (𝓣 .Λ) env body.t-5 (atRet env Post))
+        arms (BegunIs.Refused r) w good long e = refuses r w good long e
+        arms (BegunIs.Going s) w good long e = goes-on s w good long e
 
       walk : ent 𝓤 (onEntry 𝓤 H A build′.signature (κⁱ, (κʷ, (κ, tt))) (qⁱ, (qʷ, (q, tt))) passed machines)
           (WpFn 𝓤 H (𝓣 .C) (𝓣 .Λ) code.function (input-slice ∷ work-slice ∷ table-slice ∷ []) Post)

@@ -53,18 +53,15 @@ add-at c = omega (arith, slot c, (start c) .good)
 cast-union : tie.Need-cast-union
 cast-union c = omega (arith, ready (start (c .before .before)))
 
-mul-set-in : tie.Need-mul-set-in
-mul-set-in c = omega (arith, slot (c .before .before), (start (c .before .before)) .good)
+mul-union : tie.Need-mul-union
+mul-union c = omega (arith, slot (c .before .before), (start (c .before .before)) .good)
 
-shared-slice-read-set-in : tie.Need-shared-slice-read-set-in
-shared-slice-read-set-in c = slot (c .before .before .before) .0
-
-set-in-requires : tie.Need-set-in-requires
-set-in-requires c κs = tt
+shared-slice-read-union : tie.Need-shared-slice-read-union
+shared-slice-read-union c = slot (c .before .before .before) .0
 
 union-requires : tie.Need-union-requires
 union-requires c κs =
-    let row = c .before .before .before .before in
+    let row = c .before .before .before in
     let s = start row in
     omega (
       arith,
@@ -73,7 +70,6 @@ union-requires c κs =
       s .pre,
       s .pre .0 .0 .1 .constants .limit,
       row .before .flags .ensures,
-      c .set-in .ensures,
     )
 
 same-length : tie.Need-same-length
@@ -81,14 +77,13 @@ same-length c = search needs
 
 returns-2 : tie.Need-returns-2
 returns-2 c =
-    let set = c .before .before .before in
-    let row = set .before .before .before .before in
+    let row = c .before .before .before .before .before .before in
     let asked = row .before .before .before in
     let s = start row in
     let a = s .args in
     next-united (a .input .now) (a .t) (a .work .now) (s .pre .0 .0 .1 .constants) (a .state) (a .made) (s .pre .1 .1 .0) (s .pre .1 .1 .1)
     (s .pre .1 .1 .2) (a .batch .now) (asked .is-accepting .result) (asked .is-accepting .ensures) (row .before .before .if1 .left) (s .pre .1 .0 .0)
-    (row .row-at .ensures) (row .before .flags .ensures) (set .set-in .ensures) (c .before .before .union .ensures)
+    (row .row-at .ensures) (row .before .flags .ensures) (c .before .before .union .ensures)
 
 pub unite-root-spec : {M : Type 1} → statement M
 unite-root-spec =
@@ -102,9 +97,8 @@ unite-root-spec =
     row-at-requires
     add-at
     cast-union
-    mul-set-in
-    shared-slice-read-set-in
-    set-in-requires
+    mul-union
+    shared-slice-read-union
     union-requires
     same-length
     returns-2)

@@ -11,8 +11,8 @@ use Rattle.build.proofs.ending.unite_roots.Tie as tie
 
 abbrev Inv-loop : tie.InvT-loop
 Inv-loop t input work batch₀ made₀ state₀ batch made state =
-    (state ≤ t .states) × (length batch ≡ length batch₀) × (t .count ≤ made .count) × (made .count ≤ t .count + state) × (made .set ≤ t .from + made .count + 1)
-    × UnitedTo input t work state batch₀ made batch
+    (state ≤ t .states) × (length batch ≡ length batch₀) × (t .count ≤ made .count) × (made .count ≤ t .count + state)
+    × (made .set ≤ t .from + made .count + 1) × UnitedTo input t work state batch₀ made batch
 
 abbrev μ-loop : tie.MeasureT-loop
 μ-loop t input work batch₀ made₀ state₀ batch made state = t .states - state

@@ -14,7 +14,7 @@ Inv-loop work₀ from n i₀ work i = (i ≤ n) × (work ≡ paste work₀ from 
 abbrev μ-loop : tie.MeasureT-loop
 μ-loop work₀ from n i₀ work i = n - i
 
--- how far a turn has come
+-- the work stays as long as it was
 so-far : (c : tie.At-loop Inv-loop μ-loop) → length (c .loop .work) ≡ length (c .before .args .work .now)
 so-far c =
     let a = c .before .args in

@@ -7,8 +7,8 @@ use native.Mathlib.Omega.{arith}
 use borrow.Author.Tests.{leb-false, leb-true}
 use lib.ListN.{drop, getD, length}
 use Rattle.paper.specs.Stream.{recordsOf}
+use Rattle.stream.specs.Positions.{NextRule}
 use Rattle.build.specs.Batch.{Record, recordsIn}
-use Rattle.build.specs.Rules.{Leaves}
 use Rattle.build.specs.Standing.{Filling}
 use Rattle.build.specs.States.{more}
 use Rattle.build.proofs.LeafTurn.{LeafReady, leaf-onward, leaf-ready}
@@ -43,6 +43,17 @@ ready c =
 abbrev turn : tie.After-next-rule Inv-loop μ-loop → tie.Then1 Inv-loop μ-loop
 turn c = c .before .before .before .before .before .before .before .before .before .before .before .before .before
 
+-- the search goes on behind the rule, which takes four bytes
+behind : (c : tie.After-next-rule Inv-loop μ-loop)
+    → let t = turn c in
+    let a = (start t) .args in
+    NextRule (a .input .now) (t .before .before .loop .rule + 4) 17 (getD (a .input .now) (a .t .at + 1) 0) (c .next-rule .result)
+behind c =
+    let t = turn c in
+    let a = (start t) .args in
+    subst (λ x. NextRule (a .input .now) x 17 (getD (a .input .now) (a .t .at + 1) 0) (c .next-rule .result))
+    (omega (arith, c .before .body-length .ensures)) (c .next-rule .ensures)
+
 -- one more rule, whatever is in the table
 onward : (c : tie.After-next-rule Inv-loop μ-loop) (base : List Record)
     → let t = turn c in
@@ -59,12 +70,8 @@ onward c base f =
     let l = t .before .before .loop in
     let done = c .before .before .before .before .before .before in
     leaf-onward (a .input .now) (more (a .t) (l .count) (l .rule)) (l .work) (l .batch) base (l .inv .2 base f .standing) (f .start)
-    (t .before .loop-test .taken) (b .pre .1 .0 .1) _ _ _ _ _ _ (done .leaf-rule .kept .1 .0)
-    (subst
-    (λ x. Leaves (a .t .node) (getD (a .input .now) (l .rule + 2) 0) x (a .t .from) (l .count) (l .batch) (l .work) (done .leaf-rule .result)
-    (done .leaf-rule .last .0) (done .leaf-rule .last .1 .0))
-    (done .before .before .before .before .row-at .ensures) (done .leaf-rule .ensures))
-    (omega (arith, c .before .body-length .ensures)) refl (c .next-rule .ensures)
+    (t .before .loop-test .taken) (b .pre .1 .0 .1) _ _ _ _ (done .leaf-rule .kept .1 .0)
+    (done .before .before .before .before .row-at .ensures) (done .leaf-rule .ensures) (behind c)
 
 add-label : tie.Need-add-label Inv-loop μ-loop
 add-label c =

@@ -23,13 +23,13 @@ shared-slice-read-body-length : tie.Need-shared-slice-read-body-length
 shared-slice-read-body-length c = omega (arith, ready (c .before .before .before))
 
 body-length-requires : tie.Need-body-length-requires
-body-length-requires c κs = search needs
+body-length-requires c κs = tt
 
 add-next-2 : tie.Need-add-next-2
 add-next-2 c = omega (arith, ready (c .before .before .before .before), c .body-length .ensures)
 
 join-frames-requires : tie.Need-join-frames-requires
-join-frames-requires c κs = search needs
+join-frames-requires c κs = c .before .before .before .before .before .pre .0
 
 add-start-node : tie.Need-add-start-node
 add-start-node c = search needs

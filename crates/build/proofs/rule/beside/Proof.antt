@@ -4,9 +4,10 @@ use mathlib.Core.Logic.{⊎-elim}
 use mathlib.Core.Path.{_∙_, _≡_, subst₃, sym}
 use Prim.Native.Nat.{_+_, ℕ}
 use native.Mathlib.Omega.{arith}
+use lib.Count.{trailing-le}
 use lib.ListN.{length}
 use Rattle.build.specs.Rules.{Runs, flagsAt}
-use Rattle.build.proofs.Marks.{fewer-marks}
+use Rattle.build.proofs.Marks.{fewer-marks, firstMark}
 use Rattle.build.proofs.Running.{skipped-left}
 use Rattle.build.proofs.Turns.{RightLoop, RightTurn, right-ends, right-onward, right-starts, right-turn, size-small, some-flag, split-room}
 use Rattle.build.proofs.Turns.{with-empty, with-shared, with-split}
@@ -14,131 +15,119 @@ use Rattle.build.proofs.rule.beside.Statement.{statement}
 use Rattle.build.proofs.rule.beside.Tie as tie
 
 abbrev Inv-loop : tie.InvT-loop
-Inv-loop batch₀ work₀ k rule b1 left right here count₀ marks₀ batch work count marks =
-    RightLoop rule k batch₀ work₀ b1 marks count batch work
+Inv-loop batch₀ work₀ k rule b1 left right here count₀ marks₀ batch work count marks = RightLoop rule k batch₀ work₀ b1 marks count batch work
 
 abbrev μ-loop : tie.MeasureT-loop
 μ-loop batch₀ work₀ k rule b1 left right here count₀ marks₀ batch work count marks = marks
 
-abbrev start : tie.After-first-mark Inv-loop μ-loop → tie.Start Inv-loop μ-loop
-start c = c .before .before .before .before .before .before .before .before .before .before
+abbrev start : tie.In-loop Inv-loop μ-loop → tie.Start Inv-loop μ-loop
+start c = c .before .before .before .before .before .before .before
+
+-- the flag at hand
+abbrev flag : tie.In-loop Inv-loop μ-loop → ℕ
+flag c = firstMark (c .before .loop .marks)
 
 -- what is known in a turn
-turn : (c : tie.After-first-mark Inv-loop μ-loop)
+turn : (c : tie.In-loop Inv-loop μ-loop)
     → let a = (start c) .args in
-    let l = c .before .before .loop in
-    RightTurn (a .rule) (a .k) (a .batch .now) (a .work .now) (a .b1) (c .first-mark .result) (l .count) (l .batch) (l .work)
+    let l = c .before .loop in
+    RightTurn (a .rule) (a .k) (a .batch .now) (a .work .now) (a .b1) (flag c) (l .count) (l .batch) (l .work)
 turn c =
     let pre = (start c) .pre in
-    right-turn (pre .0) (pre .1 .0 .0) (pre .1 .0 .1) (c .before .before .loop .inv) (c .before .loop-test .taken) (c .first-mark .ensures)
+    right-turn (pre .0) (pre .1 .0 .0) (pre .1 .0 .1) (c .before .loop .inv) (c .loop-test .taken)
 
 -- the splits after it
-abbrev Next : tie.After-first-mark Inv-loop μ-loop → List ℕ → List ℕ → ℕ → Type 0
+abbrev Next : tie.In-loop Inv-loop μ-loop → List ℕ → List ℕ → ℕ → Type 0
 Next c batch work count =
     let a = (start c) .args in
     (length batch ≡ length (a .batch .now)) × (length work ≡ length (a .work .now))
-    × Runs (flagsAt (a .rule .own) (c .first-mark .result + 1) (a .b1)) (a .rule) (a .k) (a .batch .now) (a .work .now) count batch work
+    × Runs (flagsAt (a .rule .own) (flag c + 1) (a .b1)) (a .rule) (a .k) (a .batch .now) (a .work .now) count batch work
 
-add-set-in : tie.Need-add-set-in Inv-loop μ-loop
-add-set-in c = omega arith
+add-here : tie.Need-add-here Inv-loop μ-loop
+add-here c = omega arith
 
-mul-set-in : tie.Need-mul-set-in Inv-loop μ-loop
-mul-set-in c = omega arith
+mul-here : tie.Need-mul-here Inv-loop μ-loop
+mul-here c = omega arith
 
-slice-read-set-in : tie.Need-slice-read-set-in Inv-loop μ-loop
-slice-read-set-in c = omega arith
-
-set-in-requires : tie.Need-set-in-requires Inv-loop μ-loop
-set-in-requires c κs = tt
+slice-read-here : tie.Need-slice-read-here Inv-loop μ-loop
+slice-read-here c = omega arith
 
 returns : tie.Need-returns Inv-loop μ-loop
 returns c =
-    let begin = c .before .before .before .before .before in
+    let begin = c .before .before .before .before in
     let a = begin .args in
-    skipped-left (a .k) (a .batch .now) (a .work .now) (begin .pre .0 .low) (a .b1) (a .rule .size) (begin .pre .1 .0 .0)
-    (sym (c .before .set-in .ensures) ∙ c .if1 .taken)
+    skipped-left (a .k) (a .batch .now) (a .work .now) (begin .pre .0 .low) (a .b1) (a .rule .size) (begin .pre .1 .0 .0) (c .if1 .taken)
 
-mul-marks-in : tie.Need-mul-marks-in Inv-loop μ-loop
-mul-marks-in c =
-    let begin = c .before .before .before .before .before in
+mul-marks : tie.Need-mul-marks Inv-loop μ-loop
+mul-marks c =
+    let begin = c .before .before .before .before in
     let r = begin .pre .0 in
     omega (arith, r .right-before, r .within, begin .good)
 
-slice-read-marks-in : tie.Need-slice-read-marks-in Inv-loop μ-loop
-slice-read-marks-in c =
-    let r = c .before .before .before .before .before .before .pre .0 in
+slice-read-marks : tie.Need-slice-read-marks Inv-loop μ-loop
+slice-read-marks c =
+    let r = c .before .before .before .before .before .pre .0 in
     omega (arith, r .right-before, r .within, some-flag _ (r .flags))
-
-marks-in-requires : tie.Need-marks-in-requires Inv-loop μ-loop
-marks-in-requires c κs = tt
 
 loop-holds : tie.Need-loop-holds Inv-loop μ-loop
 loop-holds c =
-    let pre = c .before .before .before .before .before .before .before .pre in
-    right-starts (pre .0) (pre .1 .0 .0) (pre .1 .0 .1) (c .marks-in .ensures)
+    let pre = c .before .before .before .before .before .pre in
+    right-starts (pre .0) (pre .1 .0 .0) (pre .1 .0 .1)
 
-first-mark-requires : tie.Need-first-mark-requires Inv-loop μ-loop
-first-mark-requires c κs = tt
+cast-b2 : tie.Need-cast-b2 Inv-loop μ-loop
+cast-b2 c = omega (arith, trailing-le 64 (c .before .loop .marks))
 
 add-if2 : tie.Need-add-if2 Inv-loop μ-loop
 add-if2 c =
     let s = turn (c .before) in
     omega (arith, s .left-flag, s .room .own-flag, size-small _ (s .room .flags))
 
-add-set-in-2 : tie.Need-add-set-in-2 Inv-loop μ-loop
-add-set-in-2 c =
+add-there : tie.Need-add-there Inv-loop μ-loop
+add-there c =
     let s = turn (c .before .before) in
     omega (arith, s .right-flag, s .room .right-before, s .room .within, (start (c .before .before)) .good)
 
-mul-set-in-2 : tie.Need-mul-set-in-2 Inv-loop μ-loop
-mul-set-in-2 c =
+mul-there : tie.Need-mul-there Inv-loop μ-loop
+mul-there c =
     let s = turn (c .before .before) in
     omega (arith, s .right-flag, s .room .right-before, s .room .within, (start (c .before .before)) .good)
 
-slice-read-set-in-2 : tie.Need-slice-read-set-in-2 Inv-loop μ-loop
-slice-read-set-in-2 c =
+slice-read-there : tie.Need-slice-read-there Inv-loop μ-loop
+slice-read-there c =
     let s = turn (c .before .before .before) in
     omega (arith, s .right-flag, s .room .right-before, s .room .within, s .work-kept)
 
-set-in-requires-2 : tie.Need-set-in-requires-2 Inv-loop μ-loop
-set-in-requires-2 c κs = tt
-
 split-requires : tie.Need-split-requires Inv-loop μ-loop
 split-requires c κs =
-    let there = c .before .before .before in
-    let apart = there .before .before in
+    let apart = c .before .before .before .before in
     let t = apart .before .before in
-    split-room (turn t) (apart .if2 .taken) ((start t) .pre .1 .1) (t .before .before .before .before .before .before .set-in .ensures)
-    (there .set-in2 .ensures)
+    split-room (turn t) (apart .if2 .taken) ((start t) .pre .1 .1)
 
-later-marks-requires : tie.Need-later-marks-requires Inv-loop μ-loop
-later-marks-requires c κs = omega (arith, c .before .before .before .loop-test .taken)
+sub-marks : tie.Need-sub-marks Inv-loop μ-loop
+sub-marks c = omega (arith, c .before .before .loop-test .taken)
 
 loop-less : tie.Need-loop-less Inv-loop μ-loop
-loop-less c =
-    let t = c .before .before .before in
-    fewer-marks _ (t .before .loop-test .taken) (c .later-marks .ensures)
+loop-less c = fewer-marks _ (c .before .before .loop-test .taken)
 
 loop-again : tie.Need-loop-again Inv-loop μ-loop
 loop-again c =
-    let t = c .before .before .before in
+    let t = c .before .before in
     let s = turn t in
     let pre = (start t) .pre in
-    let left = t .before .before .before .before .before .before in
+    let full = t .before .before .before .if1 .left in
     let next =
     ⊎-elim
-    (λ w. subst₃ (Next t) (sym (w .11)) (sym (w .12)) (sym (w .13)) (
-      w .6 .kept .0 ∙ s .batch-kept,
-      w .6 .kept .1 .0 ∙ s .work-kept,
-      with-split s (w .0 .taken) (left .set-in .ensures) (w .2 .ensures) (t .before .before .before .before .before .if1 .left) (w .3 .taken) _ _ _ (w .6 .ensures),
+    (λ w. subst₃ (Next t) (sym (w .10)) (sym (w .11)) (sym (w .12)) (
+      w .5 .kept .0 ∙ s .batch-kept,
+      w .5 .kept .1 .0 ∙ s .work-kept,
+      with-split s (w .0 .taken) full (w .2 .taken) _ _ _ (w .5 .ensures),
     ))
     (λ v. ⊎-elim
-    (λ w. subst₃ (Next t) (sym (w .4)) (sym (w .5)) (sym (w .6)) (s .batch-kept, s .work-kept, with-empty s (w .0 .taken) (sym (w .2 .ensures) ∙ w .3 .left)))
+    (λ w. subst₃ (Next t) (sym (w .3)) (sym (w .4)) (sym (w .5)) (s .batch-kept, s .work-kept, with-empty s (w .0 .taken) (w .2 .left)))
     (λ w. subst₃ (Next t) (sym (w .1)) (sym (w .2)) (sym (w .3)) (s .batch-kept, s .work-kept, with-shared s (w .0 .left)))
     v)
-    (c .before .if2 .came) in
-    right-onward (pre .0) (pre .1 .0 .0) (pre .1 .0 .1) (t .before .before .loop .inv) (t .before .loop-test .taken) (t .first-mark .ensures)
-    (c .later-marks .ensures) (next .0) (next .1) (next .2)
+    (c .if2 .came) in
+    right-onward (pre .0) (pre .1 .0 .0) (pre .1 .0 .1) (t .before .loop .inv) (t .loop-test .taken) (next .0) (next .1) (next .2)
 
 same-length : tie.Need-same-length Inv-loop μ-loop
 same-length c = c .before .loop .inv .batch-kept
@@ -148,7 +137,7 @@ same-length-2 c = c .before .loop .inv .work-kept
 
 returns-2 : tie.Need-returns-2 Inv-loop μ-loop
 returns-2 c =
-    let pre = c .before .before .before .before .before .before .before .before .before .pre in
+    let pre = c .before .before .before .before .before .before .before .pre in
     right-ends (pre .0) (pre .1 .0 .0) (pre .1 .0 .1) (c .before .loop .inv) (c .loop-test .left)
 
 pub beside-spec : {M : Type 1} → statement M
@@ -157,23 +146,20 @@ beside-spec =
     (tie.spec
     Inv-loop
     μ-loop
-    add-set-in
-    mul-set-in
-    slice-read-set-in
-    set-in-requires
+    add-here
+    mul-here
+    slice-read-here
     returns
-    mul-marks-in
-    slice-read-marks-in
-    marks-in-requires
+    mul-marks
+    slice-read-marks
     loop-holds
-    first-mark-requires
+    cast-b2
     add-if2
-    add-set-in-2
-    mul-set-in-2
-    slice-read-set-in-2
-    set-in-requires-2
+    add-there
+    mul-there
+    slice-read-there
     split-requires
-    later-marks-requires
+    sub-marks
     loop-less
     loop-again
     same-length

@@ -1,11 +1,12 @@
 -- `rule::leaf_rule` puts the single of the rule's flag into its slot.
+use native.Mathlib.Omega.{arith}
 use borrow.Author.Needs.{needs}
 use Rattle.build.proofs.Uniting.{leaf-put}
 use Rattle.build.proofs.rule.leaf_rule.Statement.{statement}
 use Rattle.build.proofs.rule.leaf_rule.Tie as tie
 
 single-requires : tie.Need-single-requires
-single-requires c κs = search needs
+single-requires c κs = omega arith
 
 put-set-requires : tie.Need-put-set-requires
 put-set-requires c κs = search needs

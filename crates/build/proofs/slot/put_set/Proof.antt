@@ -14,25 +14,25 @@ mark : (c : tie.Start) → (65536 * 2 ^ c .args .flag) % 2 ^ 64 ≡ 2 ^ c .args 
 mark c = shl-exact {a = 65536} 17 (c .args .flag) 64 (omega arith) (omega arith) ∙ mul-comm 65536 (2 ^ c .args .flag)
 
 add-at : tie.Need-add-at
-add-at c = search needs
+add-at c = omega arith
 
 mul-work : tie.Need-mul-work
-mul-work c = search needs
+mul-work c = omega arith
 
 slice-read-work : tie.Need-slice-read-work
-slice-read-work c = search needs
+slice-read-work c = omega arith
 
 shl-work : tie.Need-shl-work
-shl-work c = search needs
+shl-work c = omega arith
 
 mul-work-2 : tie.Need-mul-work-2
-mul-work-2 c = search needs
+mul-work-2 c = omega arith
 
 slice-write-work : tie.Need-slice-write-work
-slice-write-work c = search needs
+slice-write-work c = omega arith
 
 mul-work-3 : tie.Need-mul-work-3
-mul-work-3 c = search needs
+mul-work-3 c = omega arith
 
 slice-read-work-2 : tie.Need-slice-read-work-2
 slice-read-work-2 c = search needs

@@ -2,13 +2,14 @@
 use mathlib.Core.Bool.{false}
 use mathlib.Core.List.{List}
 use mathlib.Core.Logic.{_⊎_, inl, inr}
-use mathlib.Core.Path.{_∙_, _≡_, ap, refl, subst, sym}
+use mathlib.Core.Path.{_∙_, _≡_, refl}
 use Prim.Native.Nat.{_<_}
 use native.Mathlib.Omega.{arith}
 use borrow.Author.Tests.{leb-false, leb-true}
 use lib.ListN.{length}
 use Rattle.build.specs.Batch.{Record}
-use Rattle.build.specs.Standing.{Filling, Stepped, Turned, turnsLeft}
+use Rattle.build.specs.Standing.{Filling, Turned, turnsLeft}
+use Rattle.build.specs.States.{emptied}
 use Rattle.build.proofs.TurnLoop.{Filled, emptied-filling, emptied-stepped, filled-ends, filled-filling, filled-onward, filled-starts}
 use Rattle.build.proofs.step.step.Statement.{statement}
 use Rattle.build.proofs.step.step.Tie as tie
@@ -22,14 +23,12 @@ abbrev μ-loop : tie.MeasureT-loop
 μ-loop input work₀ batch₀ s₀ work batch s = turnsLeft input s
 
 -- the batch is empty where the loop begins
-begun : (c : tie.After-empty-batch Inv-loop μ-loop)
-    → let a = c .before .before .before .before .args in
-    Filling (a .input .now) (c .empty-batch .result) (a .work .now) (a .batch .now) (c .before .before .before .before .pre .0 .0)
+begun : (c : tie.Start Inv-loop μ-loop)
+    → let a = c .args in
+    Filling (a .input .now) (emptied (a .t)) (a .work .now) (a .batch .now) (c .pre .0 .0)
 begun c =
-    let start = c .before .before .before .before in
-    let a = start .args in
-    subst (λ x. Filling (a .input .now) x (a .work .now) (a .batch .now) (start .pre .0 .0)) (sym (c .empty-batch .ensures))
-    (emptied-filling (a .input .now) (a .t) (a .work .now) (a .batch .now) (start .pre .0 .0) (start .pre .0 .1) (start .pre .0 .2))
+    let a = c .args in
+    emptied-filling (a .input .now) (a .t) (a .work .now) (a .batch .now) (c .pre .0 .0) (c .pre .0 .1) (c .pre .0 .2)
 
 -- so the building stands in each turn
 standing : (c : tie.Then1 Inv-loop μ-loop)
@@ -38,7 +37,7 @@ standing : (c : tie.Then1 Inv-loop μ-loop)
     Filling (start .args .input .now) (l .s) (l .work) (l .batch) (start .pre .0 .0)
 standing c =
     let l = c .before .before .before .loop in
-    filled-filling _ _ _ _ (l .inv .2 _ (begun (c .before .before .before .before))) (c .before .before .loop-test .taken)
+    filled-filling _ _ _ _ (l .inv .2 _ (begun (c .before .before .before .before .before .before .before .before))) (c .before .before .loop-test .taken)
 
 -- the step is done
 ended : (c : tie.At-loop Inv-loop μ-loop)
@@ -46,26 +45,20 @@ ended : (c : tie.At-loop Inv-loop μ-loop)
     let a = start .args in
     ((c .loop .s .going ≡ false) ⊎ (324 < c .loop .s .count)) → Turned (a .input .now) (a .t) (a .work .now) (c .loop .s) (c .loop .work) (c .loop .batch)
 ended c stop made s few =
-    let begin = c .before in
-    let start = begin .before .before .before .before in
-    let a = start .args in
-    let e = begin .empty-batch .ensures in
+    let a = c .before .before .before .before .before .args in
     emptied-stepped (a .input .now) (a .t) (a .work .now) (a .batch .now) made s
-    (subst (λ x. Stepped (a .input .now) x (a .work .now) made (c .loop .s) (c .loop .work) (c .loop .batch)) e
-    (filled-ends _ _ _ _ (c .loop .inv .2 made
-    (subst (λ x. Filling (a .input .now) x (a .work .now) (a .batch .now) made) (sym e)
-    (emptied-filling (a .input .now) (a .t) (a .work .now) (a .batch .now) made s few)))
-    (ap (λ x. x .going) e ∙ s .going) (ap (λ x. x .count) e) stop))
+    (filled-ends _ _ _ _ (c .loop .inv .2 made (emptied-filling (a .input .now) (a .t) (a .work .now) (a .batch .now) made s few))
+    (s .going) refl stop)
 
-empty-batch-requires : tie.Need-empty-batch-requires Inv-loop μ-loop
-empty-batch-requires c κs =
-    let start = c .before .before .before in
+add-s : tie.Need-add-s Inv-loop μ-loop
+add-s c =
+    let start = c .before .before .before .before in
     omega (arith, start .pre .0 .2, start .pre .0 .1 .constants .limit)
 
 loop-holds : tie.Need-loop-holds Inv-loop μ-loop
 loop-holds c =
     let a = c .before .before .before .before .args in
-    (refl, refl, λ base f. filled-starts (a .input .now) _ (a .work .now) base (a .batch .now) f (ap (λ x. x .count) (c .empty-batch .ensures)))
+    (refl, refl, λ base f. filled-starts (a .input .now) _ (a .work .now) base (a .batch .now) f)
 
 turn-requires : tie.Need-turn-requires Inv-loop μ-loop
 turn-requires c κs =
@@ -114,7 +107,7 @@ step-spec =
     (tie.spec
     Inv-loop
     μ-loop
-    empty-batch-requires
+    add-s
     loop-holds
     turn-requires
     loop-less

@@ -7,7 +7,7 @@ use Rattle.build.proofs.whole.begin.Statement.{statement}
 use Rattle.build.proofs.whole.begin.Tie as tie
 
 read-tree-requires : tie.Need-read-tree-requires
-read-tree-requires c κs = search needs
+read-tree-requires c κs = tt
 
 enum-known-why : tie.Need-enum-known-why
 enum-known-why c = search needs
@@ -16,7 +16,7 @@ enum-known-tree : tie.Need-enum-known-tree
 enum-known-tree c = search needs
 
 read-query-requires : tie.Need-read-query-requires
-read-query-requires c κs = search needs
+read-query-requires c κs = tt
 
 enum-known-why-2 : tie.Need-enum-known-why-2
 enum-known-why-2 c = search needs

@@ -1,7 +1,6 @@
 -- `record::few_product` meets its contract: a product is at most the limit if both factors are at most its root, and exactly if one factor is
 -- at most the limit divided by the other.
-use mathlib.Core.Path.{_∙_, sym}
-use Prim.Native.Nat.{_*_, _/_, _<_, _≤_}
+use Prim.Native.Nat.{_*_, _<_, _≤_}
 use native.Mathlib.Nat.{le-div-iff-mul-le, lt-of-not-le, mul-le-mul, not-le-of-lt}
 use native.Mathlib.Omega.{arith}
 use borrow.Author.Needs.{needs}
