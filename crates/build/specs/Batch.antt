@@ -1,20 +1,13 @@
--- What the numbers of a batch mean: five make a record, as `table` has it, and one is a set. Then what it is to make a set in a batch.
+-- What it is to make a set in a batch. What the numbers mean, `table` has: five make a record, and one is a set.
 use mathlib.Core.List.{List, _++_}
 use mathlib.Core.Path.{_≡_}
-use Prim.Native.Nat.{ℕ, zero, suc, _+_, _≤_}
+use Prim.Native.Nat.{ℕ, _+_, _≤_}
 use lib.ListN.{length}
 pub use Rattle.paper.specs.declared.Record.{Record}
-pub use Rattle.paper.specs.declared.Set.{Set}
-pub use Rattle.paper.specs.declared.Set.the-variants.{Empty as empty, Unit as unit, Record as at}
 pub use Rattle.table.specs.Batch.{recordAt}
 unfoldable pub use Rattle.table.specs.Batch.{recordsIn}
+pub use Rattle.table.specs.Sets.{Set, setIn, empty, unit, at}
 pub use Rattle.build.specs.declared.batch.Made.{Made}
-
--- the set that a number is
-abbrev pub setIn : ℕ → Set
-setIn zero = empty
-setIn (suc zero) = unit
-setIn (suc (suc i)) = at i
 
 -- `make`, given any table of `used` records and then the first k of the batch, gives the table and the set that are found afterwards.
 -- It makes at most `most` records, and its set is one at hand: empty, unit or a record of the table or of the batch

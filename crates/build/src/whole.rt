@@ -1,9 +1,8 @@
 // The beginning and the end of a build.
 ghost use mathlib.Core.Path.{_≡_};
-ghost use Prim.Native.Nat.{_≤_, min};
+ghost use Prim.Native.Nat.{min};
 ghost use Rattle.paper.specs.Refusals.{answer};
 ghost use Rattle.stream.specs.Reading.{treeReply, queryReply};
-ghost use Rattle.build.specs.Batch.{setIn};
 ghost use Rattle.build.specs.Whole.{Begins, Ended, Finishes};
 use crate::frame::clear;
 use crate::frame::flags;
@@ -13,13 +12,13 @@ use crate::state::State;
 use paper::Built;
 use paper::Head;
 use paper::Refusal;
-use paper::Set;
 use stream::QueryFacts;
 use stream::QueryRead;
 use stream::TreeFacts;
 use stream::TreeRead;
 use stream::read_query;
 use stream::read_tree;
+use table::set_of;
 
 // The building stands at its first node, or is refused with 1 to 5.
 pub(crate) enum Begun {
@@ -82,20 +81,6 @@ pub(crate) fn begin(input: &[u8], work: &mut [u64], entries: usize) -> Begun
     }
 }
 
-// The set that a number is.
-fn set_of(number: u64) -> Set
-    requires { ⌜ number ≤ 60001 ⌝ }
-    ensures { λ r. ⌜ r ≡ setIn number ⌝ }
-{
-    if number == 0 {
-        return Set::Empty;
-    }
-    if number == 1 {
-        return Set::Unit;
-    }
-    Set::Record((number - 2) as u16)
-}
-
 // The answer of a build that has stopped, or its refusal with 6. The work is cleared.
 pub(crate) fn finish(t: State, work: &mut [u64]) -> Built
     requires { ⌜ Ended t (now work) ⌝ }
@@ -106,7 +91,7 @@ pub(crate) fn finish(t: State, work: &mut [u64]) -> Built
         return Built::Refused(Refusal::ShortTable);
     }
     let places = flags(t.arity) - 1;
-    let set = set_of(t.set);
+    let set = set_of(t.set as u16);
     Built::Set(Head {
         nodes: t.nodes as u16,
         arity: t.arity as u16,

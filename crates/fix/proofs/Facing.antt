@@ -29,13 +29,13 @@ use Rattle.sound.specs.declared.Weighed.the-variants as WeighedIs
 use Rattle.sound.specs.Face.{Weighs}
 use Rattle.sound.proofs.Answered.{refused-reply, refused-work, sound-behind, sound-reply, sound-room, sound-set}
 use Rattle.sound.proofs.Overwriting.{cleared-same}
+use Rattle.table.proofs.Sets.{set-number}
 use Rattle.fix.specs.Face.{Fixes}
 use Rattle.fix.specs.Passes.{Fitting, ImagesDone, ImagesFound, MayImage, MayRecord, Numbered, RecordsDone, RecordsMade, Twice}
 use Rattle.fix.specs.Sets.{Record, Set, at, empty, setAfter, setIn, unit}
 use Rattle.fix.specs.States.{State, refusedBy, restarted, started}
 use Rattle.fix.specs.Whole.{Finishes, MayFinish, begun, headAfter}
 use Rattle.fix.proofs.ImageSteps.{at-hand, few-records}
-use Rattle.fix.proofs.Making.{set-number}
 
 restarted-refused : (t : State) → t .refused ≡ true → restarted t ≡ t
 restarted-refused t e = rw e

@@ -12,12 +12,12 @@ use lib.ListN.{getD, length, length-append}
 use Rattle.paper.specs.Questions.{isUnit}
 use Rattle.paper.specs.Sound.{entry}
 use Rattle.laws.proofs.Lists.{both-true}
+use Rattle.table.proofs.Sets.{set-number}
 use Rattle.fix.specs.Sets.{Image, Makes, Record, Set, at, empty, imageWith, newIn, operandIn, setIn, setNumber, unit}
 use Rattle.fix.specs.States.{State, passed, started}
 use Rattle.fix.specs.Turns.{Turning, imageAt, leftIn, rightIn, twiceIn}
 use Rattle.fix.specs.Passes.{Fitting, Twice, imagesTo, newRecords}
 use Rattle.fix.proofs.ImageSteps.{at-hand, few-records, image-stays, imageAfter, last-image, records-next}
-use Rattle.fix.proofs.Making.{set-number}
 
 unit-is : (e : Set) → isUnit e ≡ true → e ≡ unit
 unit-is empty h = absurd (false≢true h)

@@ -1,4 +1,5 @@
--- Sets as numbers, and the image of one record: what it is, given the sets that its operands have become, and what it is to make it.
+-- The image of a set, and of one record: what it is, given the sets that its operands have become, and what it is to make it. Sets are numbers,
+-- as `table` has them.
 use mathlib.Core.Bool.{cond, not, _&&_}
 use mathlib.Core.List.{List, [], _∷_, _++_}
 use mathlib.Core.Path.{_≡_}
@@ -6,23 +7,11 @@ use Prim.Native.Nat.{ℕ, zero, suc, _+_, _≤_}
 use lib.Dec.{eqb}
 use lib.ListN.{getD, length}
 pub use Rattle.paper.specs.declared.Record.{Record}
-pub use Rattle.paper.specs.declared.Set.{Set}
-pub use Rattle.paper.specs.declared.Set.the-variants.{Empty as empty, Unit as unit, Record as at}
 use Rattle.paper.specs.Building.{singleRecord, productRecord, unionRecord}
 use Rattle.paper.specs.Questions.{hasPlace, without}
 use Rattle.paper.specs.Records.{blankEntry, byKind}
+pub use Rattle.table.specs.Sets.{Set, setIn, setNumber, empty, unit, at}
 pub use Rattle.fix.specs.declared.image.Image.{Image}
-
--- the set that a number is, and the number that a set is
-abbrev pub setIn : ℕ → Set
-setIn zero = empty
-setIn (suc zero) = unit
-setIn (suc (suc i)) = at i
-
-abbrev pub setNumber : Set → ℕ
-setNumber empty = 0
-setNumber unit = 1
-setNumber (at i) = suc (suc i)
 
 -- the number in the work for an operand of a record of this kind; empty for a single, which has none
 abbrev pub operandIn : List ℕ → ℕ → ℕ → ℕ

@@ -1,7 +1,6 @@
 // The beginning of a fix, of its second pass, and its end.
 ghost use mathlib.Core.Path.{_≡_};
-ghost use Prim.Native.Nat.{_≤_};
-ghost use Rattle.fix.specs.Sets.{setIn, setAfter};
+ghost use Rattle.fix.specs.Sets.{setAfter};
 ghost use Rattle.fix.specs.States.{started, refusedBy, restarted};
 ghost use Rattle.fix.specs.Whole.{begun, ImageIn, MayFinish, answerAfter, Finishes};
 use crate::state::State;
@@ -12,6 +11,7 @@ use paper::Set;
 use places::is_open;
 use places::without_place;
 use sound::Weighed;
+use table::set_of;
 
 // Before the first record. Only a union of unit and unit can still refuse.
 fn start(used: usize, place: u16, node: u16) -> State
@@ -82,20 +82,6 @@ pub(crate) fn again(t: State) -> State
     start(t.used, t.place, t.node)
 }
 
-// The set that a number is.
-fn set_of(number: u64) -> Set
-    requires { ⌜ number ≤ 60001 ⌝ }
-    ensures { λ r. ⌜ r ≡ setIn number ⌝ }
-{
-    if number == 0 {
-        return Set::Empty;
-    }
-    if number == 1 {
-        return Set::Unit;
-    }
-    Set::Record((number - 2) as u16)
-}
-
 // What the set of the head becomes.
 fn new_set(set: Set, work: &[u64]) -> Set
     requires { ⌜ ImageIn (now work) set ⌝ }
@@ -104,7 +90,7 @@ fn new_set(set: Set, work: &[u64]) -> Set
     match set {
         Set::Empty => Set::Empty,
         Set::Unit => Set::Unit,
-        Set::Record(i) => set_of(work[i as usize]),
+        Set::Record(i) => set_of(work[i as usize] as u16),
     }
 }
 

@@ -9,6 +9,7 @@ pub mod Arrays
 pub mod Entries
 pub mod Copies
 pub mod Batches
+pub mod Sets
 pub mod States
 pub mod Storing
 pub mod Building

@@ -1,11 +1,14 @@
 // The lent table of records: the few functions that write it. They are proved by hand, so all that can be done on plain numbers is done
 // by functions that the borrow checker covers. proofs/ has the laws that the loops over a table are instances of: Building, Asking and Copying.
+// Last, the set that a number is.
 ghost use mathlib.Core.Path.{_≡_};
 ghost use Prim.Native.Nat.{_+_, _*_, _<_};
 ghost use lib.ListN.{length, replicate};
 ghost use Rattle.paper.specs.Records.{blankEntry};
 ghost use Rattle.table.specs.Batch.{recordAt, fitted, stored};
+ghost use Rattle.table.specs.Sets.{setIn};
 use paper::Record;
+use paper::Set;
 
 // Every entry all zeros.
 pub fn blank(table: &mut [Record])
@@ -69,4 +72,17 @@ fn record_at(batch: &[u16], i: usize) -> Record
         right: batch[at + 3],
         flag: batch[at + 4],
     }
+}
+
+// The set that a number is: 0 is empty, 1 is unit, i + 2 is record i.
+pub fn set_of(number: u16) -> Set
+    ensures { λ r. ⌜ r ≡ setIn number ⌝ }
+{
+    if number == 0 {
+        return Set::Empty;
+    }
+    if number == 1 {
+        return Set::Unit;
+    }
+    Set::Record(number - 2)
 }

@@ -19,12 +19,13 @@ use Rattle.laws.proofs.Lists.{which}
 use Rattle.laws.proofs.Shaped.{last-or}
 use Rattle.paper.specs.Sound.{entry}
 use Rattle.table.proofs.Asking.{Law, Next, asking-meets}
+use Rattle.table.proofs.Sets.{number-set}
 use Rattle.fix.specs.Sets.{Image, Makes, Record, empty, newIn, setNumber}
 use Rattle.fix.specs.States.{State, passed, started, stopped}
 use Rattle.fix.specs.Turns.{Imaged, Turning, imageAt, twiceIn}
 use Rattle.fix.specs.Passes.{Fitting, ImagesDone, ImagesFound, MayImage, Twice, imagesTo}
 use Rattle.fix.proofs.ImageSteps.{image-stays}
-use Rattle.fix.proofs.Making.{length-new, number-set}
+use Rattle.fix.proofs.Making.{length-new}
 use Rattle.fix.proofs.OneRecord.{HasImages, Standing, first-at, first-going, is-twice, next-image, next-records, stands-first, stands-next, turning, twice-is}
 use Rattle.fix.proofs.StateShape.{at-field, shape}
 use Rattle.fix.proofs.turn.image_turn.Symbol as turn-def

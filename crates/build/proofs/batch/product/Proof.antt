@@ -5,9 +5,9 @@ use native.Mathlib.Omega.{arith}
 use borrow.Author.Needs.{needs}
 use borrow.Author.Tests.{eqb-false, eqb-true}
 use Rattle.paper.specs.Building.{productRecord}
+use Rattle.table.proofs.Sets.{product-left-empty, product-left-unit, product-new, product-right-empty, product-right-unit}
 use Rattle.build.specs.Batch.{setIn}
 use Rattle.build.proofs.Making.{as-made, none-made}
-use Rattle.build.proofs.Making.{product-left-empty, product-left-unit, product-new, product-right-empty, product-right-unit}
 use Rattle.build.proofs.batch.product.Statement.{statement}
 use Rattle.build.proofs.batch.product.Tie as tie
 

@@ -2,7 +2,8 @@
 use native.Mathlib.Omega.{arith}
 use borrow.Author.Needs.{needs}
 use Rattle.paper.specs.Building.{singleRecord}
-use Rattle.build.proofs.Making.{as-made, none-made, single-new, single-unit}
+use Rattle.table.proofs.Sets.{single-new, single-unit}
+use Rattle.build.proofs.Making.{as-made, none-made}
 use Rattle.build.proofs.batch.single.Statement.{statement}
 use Rattle.build.proofs.batch.single.Tie as tie
 

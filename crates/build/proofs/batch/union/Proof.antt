@@ -5,8 +5,9 @@ use native.Mathlib.Omega.{arith}
 use borrow.Author.Needs.{needs}
 use borrow.Author.Tests.{ltb-false, ltb-true}
 use Rattle.paper.specs.Building.{unionRecord}
+use Rattle.table.proofs.Sets.{union-left-empty, union-left-record, union-left-unit, union-new}
 use Rattle.build.specs.Batch.{setIn}
-use Rattle.build.proofs.Making.{as-made, none-made, union-left-empty, union-left-record, union-left-unit, union-new}
+use Rattle.build.proofs.Making.{as-made, none-made}
 use Rattle.build.proofs.batch.union.Statement.{statement}
 use Rattle.build.proofs.batch.union.Tie as tie
 

@@ -31,23 +31,26 @@ flags-requires c κs = small c .arity
 sub-places : tie.Need-sub-places
 sub-places c = omega (arith, c .flags .ensures, small (c .before))
 
+cast-set-of : tie.Need-cast-set-of
+cast-set-of c = omega (arith, small (c .before .before) .set)
+
 set-of-requires : tie.Need-set-of-requires
-set-of-requires c κs = small (c .before) .set
+set-of-requires c κs = tt
 
 cast-t11 : tie.Need-cast-t11
-cast-t11 c = omega (arith, small (c .before .before .before))
+cast-t11 c = omega (arith, small (c .before .before .before .before))
 
 cast-t12 : tie.Need-cast-t12
-cast-t12 c = omega (arith, small (c .before .before .before .before))
+cast-t12 c = omega (arith, small (c .before .before .before .before .before))
 
 cast-t13 : tie.Need-cast-t13
-cast-t13 c = omega (arith, c .before .before .before .flags .ensures, small (c .before .before .before .before))
+cast-t13 c = omega (arith, c .before .before .before .before .flags .ensures, small (c .before .before .before .before .before))
 
 add-t10 : tie.Need-add-t10
-add-t10 c = omega (arith, small (c .before .before .before .before .before))
+add-t10 c = omega (arith, small (c .before .before .before .before .before .before))
 
 cast-t14 : tie.Need-cast-t14
-cast-t14 c = omega (arith, small (c .before .before .before .before .before))
+cast-t14 c = omega (arith, small (c .before .before .before .before .before .before))
 
 same-length-2 : tie.Need-same-length-2
 same-length-2 c = search needs
@@ -55,7 +58,7 @@ same-length-2 c = search needs
 returns-2 : tie.Need-returns-2
 returns-2 c input first entries all s limit long rest =
     let number = c .before .before .before in
-    let places = number .before in
+    let places = number .before .before in
     let branch = places .before in
     let done = branch .before .before .before in
     let start = done .before .before .before in
@@ -72,6 +75,7 @@ finish-spec =
     returns
     flags-requires
     sub-places
+    cast-set-of
     set-of-requires
     cast-t11
     cast-t12

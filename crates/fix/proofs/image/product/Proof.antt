@@ -5,8 +5,9 @@ use native.Mathlib.Omega.{arith}
 use borrow.Author.Tests.{eqb-false, eqb-true}
 use Rattle.paper.specs.Building.{productRecord}
 use Rattle.paper.specs.Records.{productOf}
+use Rattle.table.proofs.Sets.{product-left-empty, product-left-unit, product-new, product-right-empty, product-right-unit}
 use Rattle.fix.specs.Sets.{setIn}
-use Rattle.fix.proofs.Making.{none-made, record-made, product-left-empty, product-left-unit, product-new, product-right-empty, product-right-unit}
+use Rattle.fix.proofs.Making.{none-made, record-made}
 use borrow.Author.Needs.{needs}
 use Rattle.fix.proofs.image.product.Statement.{statement}
 use Rattle.fix.proofs.image.product.Tie as tie

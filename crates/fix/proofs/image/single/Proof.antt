@@ -1,7 +1,8 @@
 -- `image::single` makes the paper's single.
 use Rattle.paper.specs.Building.{singleRecord}
 use Rattle.paper.specs.Records.{singleOf}
-use Rattle.fix.proofs.Making.{none-made, record-made, single-new, single-unit}
+use Rattle.table.proofs.Sets.{single-new, single-unit}
+use Rattle.fix.proofs.Making.{none-made, record-made}
 use borrow.Author.Needs.{needs}
 use Rattle.fix.proofs.image.single.Statement.{statement}
 use Rattle.fix.proofs.image.single.Tie as tie

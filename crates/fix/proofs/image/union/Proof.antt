@@ -6,8 +6,9 @@ use native.Mathlib.Omega.{arith}
 use borrow.Author.Tests.{ltb-false, ltb-true}
 use Rattle.paper.specs.Building.{unionRecord}
 use Rattle.paper.specs.Records.{unionOf}
+use Rattle.table.proofs.Sets.{union-left-empty, union-left-record, union-left-unit, union-new}
 use Rattle.fix.specs.Sets.{setIn}
-use Rattle.fix.proofs.Making.{none-made, record-made, union-left-empty, union-left-record, union-left-unit, union-new}
+use Rattle.fix.proofs.Making.{none-made, record-made}
 use borrow.Author.Needs.{needs}
 use Rattle.fix.proofs.image.union.Statement.{statement}
 use Rattle.fix.proofs.image.union.Tie as tie

@@ -1,6 +1,7 @@
 -- `whole::new_set` is the image of the set.
 use mathlib.Core.Path.{_∙_, ap, sym}
 use Prim.Native.Nat.{_<_, _≤_}
+use native.Mathlib.Omega.{arith}
 use lib.ListN.{getD, length}
 use Rattle.fix.specs.Sets.{setAfter}
 use borrow.Author.Needs.{needs}
@@ -30,8 +31,11 @@ mul-set-of c = search needs
 shared-slice-read-set-of : tie.Need-shared-slice-read-set-of
 shared-slice-read-set-of c = image-there (c .before .before) .0
 
+cast-set-of-2 : tie.Need-cast-set-of-2
+cast-set-of-2 c = omega (arith, image-there (c .before .before) .1)
+
 set-of-requires : tie.Need-set-of-requires
-set-of-requires c κs = image-there (c .before .before) .1
+set-of-requires c κs = tt
 
 returns : tie.Need-returns
 returns c = search needs
@@ -54,6 +58,7 @@ new-set-spec =
     cast-set-of
     mul-set-of
     shared-slice-read-set-of
+    cast-set-of-2
     set-of-requires
     returns
     returns-2

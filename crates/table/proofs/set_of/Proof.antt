@@ -1,10 +1,10 @@
--- `whole::set_of` is the set that a number is.
+-- `set_of` meets its contract: each `return` by the tests that led there.
 use mathlib.Core.Path.{sym}
 use native.Mathlib.Omega.{arith}
 use borrow.Author.Needs.{needs}
-use Rattle.build.proofs.Making.{record-number}
-use Rattle.build.proofs.whole.set_of.Statement.{statement}
-use Rattle.build.proofs.whole.set_of.Tie as tie
+use Rattle.table.proofs.Sets.{record-number}
+use Rattle.table.proofs.set_of.Statement.{statement}
+use Rattle.table.proofs.set_of.Tie as tie
 
 returns : tie.Need-returns
 returns c = search needs
@@ -15,11 +15,8 @@ returns-2 c = search needs
 sub-t3 : tie.Need-sub-t3
 sub-t3 c = search needs
 
-cast-t4 : tie.Need-cast-t4
-cast-t4 c = search needs
-
 returns-3 : tie.Need-returns-3
 returns-3 c = sym (record-number (c .before .before .args .number) (omega (arith, c .before .if1 .left, c .if2 .left)))
 
 pub set-of-spec : {M : Type 1} → statement M
-set-of-spec = tie.close (tie.spec returns returns-2 sub-t3 cast-t4 returns-3)
+set-of-spec = tie.close (tie.spec returns returns-2 sub-t3 returns-3)
