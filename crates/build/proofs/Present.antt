@@ -1,24 +1,23 @@
 -- What is known at the present node. First how many subtrees can be unjoined; then the node's bytes, its number and its frame, and at a
 -- branch that there are two frames below; last what the code asks of these numbers.
-use mathlib.Core.Bool.{Bool, cond, false, true}
+use mathlib.Core.Bool.{true}
 use mathlib.Core.List.{List, [], _++_, _∷_}
 use mathlib.Core.Logic.{⊎-elim}
 use mathlib.Core.Path.{_∙_, _≡_, ap, refl, subst, subst₂, sym}
 use Prim.Native.Nat.{_*_, _+_, _<_, _≤_, suc, ℕ}
 use native.Mathlib.Omega.{arith}
 use borrow.Author.Tests.{ltb-true}
-use lib.Dec.{eqb}
 use lib.ListN.{getD, length, length-append}
 use Rattle.paper.specs.Building.{buildWork}
-use Rattle.paper.specs.Lists.{through}
 use Rattle.paper.specs.Refusals.{atEach, nodesIn, queryIn, treeEndTests, treePart, treeTests}
 use Rattle.paper.specs.Stream.{StreamRecord, bodyLength, number, whole}
-use Rattle.paper.specs.Tree.{Tree, grow, join, leaf, mostFrom, mostUnjoined, unjoined}
+use Rattle.paper.specs.Tree.{Tree, grow, mostFrom, mostUnjoined, unjoined}
 use Rattle.laws.proofs.Replies.{Passes, passes-left}
 use Rattle.laws.proofs.StreamPlaces.{tree-kind}
 use Rattle.laws.specs.StreamRows.{TreeKind}
 use Rattle.stream.specs.Positions.{recordAt}
 use Rattle.stream.proofs.Positions.{number-byte, whole-inside}
+use Rattle.stream.proofs.TreeSteps.{grow-few, unjoined-nodes}
 use Rattle.build.specs.Frames.{width}
 use Rattle.build.specs.Standing.{AtNode, Constants, State}
 use Rattle.build.proofs.Frames.{top-fits}
@@ -27,23 +26,6 @@ use Rattle.build.proofs.Places.{TreePlace, tree-place}
 use Rattle.build.proofs.ReadInput.{few-states, small-arity, tree-passes}
 
 -- ---- how many subtrees are unjoined
-join-few : (label n : ℕ) (ts : List Tree) → length (join label n ts) ≤ length ts
-join-few label n [] = omega arith
-join-few label n (last ∷ []) = omega arith
-join-few label n (last ∷ older ∷ others) = omega arith
-
--- each record leaves at most one more
-grow-few : (s : List Tree × ℕ) (r : StreamRecord) → length ((grow s r) .0) ≤ suc (length (s .0))
-grow-few s r = go (eqb (r .kind) 1)
-  where
-    go : (c : Bool) → length (cond c (leaf (number r 0) (s .1) ∷ s .0) (join (number r 0) (s .1) (s .0))) ≤ suc (length (s .0))
-    go true = omega arith
-    go false = omega (arith, join-few (number r 0) (s .1) (s .0))
-
-unjoined-from : (records : List StreamRecord) (s : List Tree × ℕ) → length ((through grow s records) .0) ≤ length (s .0) + length records
-unjoined-from [] s = omega arith
-unjoined-from (r ∷ records) s = omega (arith, unjoined-from records (grow s r), grow-few s r)
-
 most-from : (records : List StreamRecord) (s : List Tree × ℕ) → mostFrom s records ≤ length (s .0) + length records
 most-from [] s = omega arith
 most-from (r ∷ records) s = omega (arith, most-from records (grow s r), grow-few s r)
@@ -103,7 +85,7 @@ module _ (input : List ℕ) (t : State) (k : Constants input t) (n : AtNode inpu
   high = n .high ∙ stack-high (queryIn input) (n .before) (n .earlier) (n .stack) (n .passed)
 
   pub few-frames : t .top ≤ t .node
-  few-frames = omega (arith, high, n .number, unjoined-from (n .before) ([], 0))
+  few-frames = omega (arith, high, n .number, unjoined-nodes (n .before))
 
   pub frame-room : t .top * width (t .arity) (t .states) + width (t .arity) (t .states) ≤ t .asked
   frame-room =

@@ -52,7 +52,7 @@ join-few label n [] = omega arith
 join-few label n (last ∷ []) = omega arith
 join-few label n (last ∷ older ∷ others) = omega arith
 
-grow-few : (s : List Tree × ℕ) (r : StreamRecord) → length ((grow s r) .0) ≤ suc (length (s .0))
+pub grow-few : (s : List Tree × ℕ) (r : StreamRecord) → length ((grow s r) .0) ≤ suc (length (s .0))
 grow-few s r = go (eqb (r .kind) 1)
   where
     go : (c : Bool) → length (cond c (leaf (number r 0) (s .1) ∷ s .0) (join (number r 0) (s .1) (s .0))) ≤ suc (length (s .0))
@@ -64,7 +64,7 @@ few-through s [] = omega arith
 few-through s (r ∷ rs) = omega (arith, few-through (grow s r) rs, grow-few s r)
 
 -- and never more than there are nodes
-unjoined-nodes : (records : List StreamRecord) → length (unjoined records) ≤ length records
+pub unjoined-nodes : (records : List StreamRecord) → length (unjoined records) ≤ length records
 unjoined-nodes records = omega (arith, few-through ([], 0) records)
 
 -- ---- the tests of one record
