@@ -7,11 +7,17 @@ use Prim.Native.Nat.{_<_, _≤_, ℕ}
 use native.Mathlib.Omega.{arith}
 use lib.ListN.{drop, length}
 use Rattle.paper.specs.Stream.{recordsOf}
+use Rattle.stream.specs.Positions.{NextRule}
 use Rattle.build.specs.Batch.{Record, recordsIn}
 use Rattle.build.specs.Standing.{Filling, Standing, State, Stepped}
 use Rattle.build.specs.States.{counted, more}
 use Rattle.build.proofs.Limits.{rules-counted}
 use Rattle.build.proofs.OwnRow.{Onward}
+
+-- the search for the next rule goes on behind the present one, wherever that is
+pub searched-from : {input : List ℕ} {from behind kind label next : ℕ} → from ≡ behind → NextRule input from kind label next
+    → NextRule input behind kind label next
+searched-from {input} {kind = kind} {label} {next} e found = subst (λ x. NextRule input x kind label next) e found
 
 -- some rules are done, or none yet
 pub record Ran (input : List ℕ) (t : State) (work : List ℕ) (base : List Record) (count rule : ℕ) (work′ batch′ : List ℕ) : Type 0 where

@@ -1,20 +1,18 @@
 -- `node::leaf_rules` does rules of a leaf. The loop's invariant: the building stands at the present rule.
 use mathlib.Core.List.{List, _++_}
 use mathlib.Core.Logic.{inl, inr, ⊎-elim}
-use mathlib.Core.Path.{_∙_, _≡_, refl, subst}
-use Prim.Native.Nat.{_+_}
+use mathlib.Core.Path.{_∙_, _≡_, refl}
 use native.Mathlib.Omega.{arith}
 use borrow.Author.Tests.{leb-false, leb-true}
-use lib.ListN.{drop, getD, length}
+use lib.ListN.{drop, length}
 use Rattle.paper.specs.Stream.{recordsOf}
-use Rattle.stream.specs.Positions.{NextRule}
 use Rattle.build.specs.Batch.{Record, recordsIn}
 use Rattle.build.specs.Standing.{Filling}
 use Rattle.build.specs.States.{more}
 use Rattle.build.proofs.LeafTurn.{LeafReady, leaf-onward, leaf-ready}
 use Rattle.build.proofs.OwnRow.{Onward}
 use Rattle.build.proofs.Present.{inside-here}
-use Rattle.build.proofs.RuleLoop.{Ran, ran-ends, ran-onward, ran-starts}
+use Rattle.build.proofs.RuleLoop.{Ran, ran-ends, ran-onward, ran-starts, searched-from}
 use Rattle.build.proofs.node.leaf_rules.Statement.{statement}
 use Rattle.build.proofs.node.leaf_rules.Tie as tie
 
@@ -43,17 +41,6 @@ ready c =
 abbrev turn : tie.After-next-rule Inv-loop μ-loop → tie.Then1 Inv-loop μ-loop
 turn c = c .before .before .before .before .before .before .before .before .before .before .before .before .before
 
--- the search goes on behind the rule, which takes four bytes
-behind : (c : tie.After-next-rule Inv-loop μ-loop)
-    → let t = turn c in
-    let a = (start t) .args in
-    NextRule (a .input .now) (t .before .before .loop .rule + 4) 17 (getD (a .input .now) (a .t .at + 1) 0) (c .next-rule .result)
-behind c =
-    let t = turn c in
-    let a = (start t) .args in
-    subst (λ x. NextRule (a .input .now) x 17 (getD (a .input .now) (a .t .at + 1) 0) (c .next-rule .result))
-    (omega (arith, c .before .body-length .ensures)) (c .next-rule .ensures)
-
 -- one more rule, whatever is in the table
 onward : (c : tie.After-next-rule Inv-loop μ-loop) (base : List Record)
     → let t = turn c in
@@ -71,7 +58,7 @@ onward c base f =
     let done = c .before .before .before .before .before .before in
     leaf-onward (a .input .now) (more (a .t) (l .count) (l .rule)) (l .work) (l .batch) base (l .inv .2 base f .standing) (f .start)
     (t .before .loop-test .taken) (b .pre .1 .0 .1) _ _ _ _ (done .leaf-rule .kept .1 .0)
-    (done .before .before .before .before .row-at .ensures) (done .leaf-rule .ensures) (behind c)
+    (done .before .before .before .before .row-at .ensures) (done .leaf-rule .ensures) (searched-from (omega (arith, c .before .body-length .ensures)) (c .next-rule .ensures))
 
 add-label : tie.Need-add-label Inv-loop μ-loop
 add-label c =
