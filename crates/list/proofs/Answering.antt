@@ -25,7 +25,9 @@ use Rattle.laws.proofs.Replies.{answer-inj, refused-inj, refused-not-answer}
 use Rattle.laws.proofs.SoundTest.{is-sound}
 use Rattle.build.specs.Face.{Builds}
 use Rattle.sound.specs.Face.{Counts}
+use Rattle.list.specs.declared.handed.Handed.{Handed}
 use Rattle.list.specs.declared.page.Page.{Page}
+use Rattle.list.specs.Handing.{nothingHanded}
 use Rattle.list.specs.Listing.{Going, Lists, Ready, Rows, Tells, headOf, linesTo, setText}
 use Rattle.list.specs.Page.{Facts, Opens, Refuses, opened}
 use Rattle.list.specs.Text.{factText, programText, recordsWord, rowsWord}
@@ -65,20 +67,23 @@ too-long input long = rw (lt-leb (length input) 16384 long)
 
 -- ---- the first lines
 -- what waits is all that is told so far
-first-tells : (whole far : List ℕ) (t : Page) (text : List ℕ) → t .told ≡ 0 → t .bytes ≤ length text → take (t .bytes) text ≡ far
-    → Tells whole far t text
-first-tells whole far t text none within stands = record {
-  next = ap (λ (n : ℕ). take n whole ++ take (t .bytes) text) none ∙ stands;
-  bytes = omega (arith, none, length-take-le (t .bytes) text within, ap length stands);
-  within = within;
-}
+first-tells : (whole far : List ℕ) (t : Page) (text : List ℕ) → t .handed ≡ nothingHanded → 85 ≤ length text → t .bytes ≤ 58
+    → take (t .bytes) text ≡ far → Tells whole far t text
+first-tells whole far t text none long few stands =
+    let unhanded : t .handed .bytes ≡ 0 = ap (λ (h : Handed). h .bytes) none in
+    let waiting : t .bytes ≡ length far = sym (length-take-le (t .bytes) text (omega (arith, long, few))) ∙ ap length stands in record {
+      next = ap (λ (n : ℕ). take n whole ++ take (t .bytes) text) unhanded ∙ stands;
+      bytes = omega (arith, unhanded, waiting);
+      countable = omega (arith, waiting, few);
+      within = omega (arith, long, few);
+    }
 
 -- a refusal's is all there is
 pub refuses-lists : (input : List ℕ) (n : ℕ) → program input ≡ refused n → (t : Page) (text : List ℕ) → 85 ≤ length text → Refuses n t text
     → Lists input t text
 refuses-lists input n e t text long R = record {
-  tells = subst (λ (a : Reply (ℕ × List Row)). Tells (programText a) (programText a) t text) (sym e)
-      (first-tells (programText (refused n)) (programText (refused n)) t text (R .untold) (omega (arith, R .bytes, long)) (R .stands));
+  tells = λ _. subst (λ (a : Reply (ℕ × List Row)). Tells (programText a) (programText a) t text) (sym e)
+      (first-tells (programText (refused n)) (programText (refused n)) t text (R .unhanded) long (R .bytes) (R .stands));
 }
 
 -- a set's are those before the first row
@@ -88,11 +93,11 @@ module _ (h : Head) (table : List Record) (bytes : ℕ) (text : List ℕ) (long 
 
   opens-tells : Tells (setText h table) (linesTo h table 0) first text
   opens-tells =
-      first-tells (setText h table) (linesTo h table 0) first text refl (omega (arith, F .bytes, long))
+      first-tells (setText h table) (linesTo h table 0) first text refl long (F .bytes)
       (F .stands ∙ ap (λ (b : List ℕ). factText recordsWord (h .used) ++ b) (sym (append-nil (factText rowsWord (countOf h table)))))
 
   opens-going : Going h table first text
-  opens-going = record { places = refl; rows = refl; number = omega arith; more = refl; tells = opens-tells }
+  opens-going = record { places = refl; rows = refl; number = omega arith; more = refl; fine = refl; tells = opens-tells }
 
   -- with no row they are all
   opens-all : first .going ≡ false → Tells (setText h table) (setText h table) first text
@@ -165,21 +170,24 @@ module _ (input work₀ : List ℕ) (table₀ : List Record) (short : length inp
       facts : Facts (h .used) (countOf h table) (s .bytes) text × (s ≡ opened h (countOf h table) (s .bytes))
       facts = subst (λ (a : Reply ℕ). Opens (answer h) a s text) said-count O
 
-      ready-set : length work′ ≡ 16384 → length text ≤ 65536 → Ready h table s work′ text
+      ready-set : length work′ ≡ 16384 → length text ≤ 65536 → Ready h table s work′ text input
       ready-set work-long′ few = record {
         room = record { long = long; short = few; within = omega (arith, facts .0 .bytes, long) };
         goes = λ _. (
           record { enough = omega (arith, enough, work-long′); is-sound = is-sound h table (built-good input h table set .sound) },
           subst (λ (p : Page). Going h table p text) (sym (facts .1)) (opens-going h table (s .bytes) text long (facts .0)),
+          sym program-answered,
         );
       }
 
       told-set : (e : Page) (text′ : List ℕ) → Rows h table s text e text′ → Lists input e text′
-      told-set e text′ R = record { tells = subst (λ (whole : List ℕ). Tells whole whole e text′) (sym program-answered) (go (s .going) refl) }
+      told-set e text′ R = record {
+        tells = λ still. subst (λ (whole : List ℕ). Tells whole whole e text′) (sym program-answered) (go still (s .going) refl);
+      }
         where
-          go : (c : Bool) → s .going ≡ c → Tells (setText h table) (setText h table) e text′
-          go true on = R .all on
-          go false off =
+          go : e .handed .failed ≡ false → (c : Bool) → s .going ≡ c → Tells (setText h table) (setText h table) e text′
+          go still true on = R .all on still
+          go still false off =
               subst₂ (Tells (setText h table) (setText h table)) (sym (R .none off .0 ∙ facts .1)) (sym (R .none off .1))
               (opens-all h table (s .bytes) text long (facts .0) (sym (ap (λ (p : Page). p .going) (facts .1)) ∙ off))
 
@@ -194,10 +202,10 @@ module _ (input work₀ : List ℕ) (table₀ : List Record) (short : length inp
     said-set : (h′ : Head) → saysBuilt r ≡ answer h′ → saysBuilt r ≡ answer h
     said-set h′ e = e ∙ ap answer (sym (is ∙ head-said r h′ e))
 
-    pub list-ready : length work′ ≡ 16384 → length text ≤ 65536 → Ready h table s work′ text
+    pub list-ready : length work′ ≡ 16384 → length text ≤ 65536 → Ready h table s work′ text input
     list-ready work-long′ few = go (saysBuilt r) refl
       where
-        go : (a : Reply Head) → saysBuilt r ≡ a → Ready h table s work′ text
+        go : (a : Reply Head) → saysBuilt r ≡ a → Ready h table s work′ text input
         go (refused m) e =
             let R = subst (λ (a : Reply Head). Opens a (saysCounted n) s text) e O in record {
               room = record { long = long; short = few; within = omega (arith, R .bytes, long) };

@@ -1,8 +1,9 @@
 -- The first lines, by what was built and counted; and a row's line, by whether the row was written.
-use mathlib.Core.Bool.{Bool, false, true}
+use mathlib.Core.Bool.{Bool, false, true, true≢false}
 use mathlib.Core.List.{List}
-use mathlib.Core.Path.{_∙_, _≡_, ap, refl, subst}
+use mathlib.Core.Path.{_∙_, _≡_, ap, refl, sym}
 use Prim.Native.Nat.{_+_, _-_, _≤_, ℕ}
+use native.Mathlib.Omega.{arith}
 use lib.Dec.{leb, ltb}
 use lib.ListN.{length, take}
 use Rattle.paper.specs.declared.Built.{Built}
@@ -14,9 +15,12 @@ use Rattle.paper.specs.declared.Refusal.{Refusal}
 use Rattle.paper.specs.declared.Written.{Written}
 use Rattle.paper.specs.declared.Written.the-variants as WrittenIs
 use Rattle.paper.specs.Answers.{numberOf, saysBuilt, saysCounted, saysWritten}
+use Rattle.list.specs.declared.handed.Handed.{Handed}
 use Rattle.list.specs.declared.page.Page.{Page}
-use Rattle.list.specs.Page.{Facts, Lines, Opens, Refuses, RowThere, ended, lined, opened, withRoom}
+use Rattle.list.specs.Handing.{nothingHanded}
+use Rattle.list.specs.Page.{Facts, Lines, MakesRoom, Opens, Refuses, RowThere, ended, lined, opened, withRoom}
 use Rattle.list.specs.Text.{Puts, lineText}
+use Rattle.list.proofs.Waiting.{room-failed, room-made}
 
 pub opens-refused : (b : Built) (n : Counted) (why : Refusal) (t : Page) (text : List ℕ) → b ≡ BuiltIs.Refused why
     → Refuses (numberOf why) t text → Opens (saysBuilt b) (saysCounted n) t text
@@ -26,9 +30,11 @@ pub opens-uncounted : (b : Built) (n : Counted) (h : Head) (why : Refusal) (t : 
     → n ≡ CountedIs.Refused why → Refuses (numberOf why) t text → Opens (saysBuilt b) (saysCounted n) t text
 opens-uncounted b n h why t text e f r = rw (e, f) r
 
-pub opens-rows : (b : Built) (n : Counted) (h : Head) (rows bytes : ℕ) (text : List ℕ) → b ≡ BuiltIs.Set h → n ≡ CountedIs.Rows rows
-    → Facts (h .used) rows bytes text → Opens (saysBuilt b) (saysCounted n) (opened h rows bytes) text
-opens-rows b n h rows bytes text e f r = rw (e, f) (r, refl)
+pub opens-rows : (b : Built) (n : Counted) (h : Head) (rows bytes : ℕ) (handed : Handed) (text : List ℕ) → b ≡ BuiltIs.Set h
+    → n ≡ CountedIs.Rows rows → Facts (h .used) rows bytes text → handed ≡ nothingHanded
+    → Opens (saysBuilt b) (saysCounted n)
+    (record { number = 0; rows = rows; handed = handed; places = h .arity; bytes = bytes; going = ltb 0 rows }) text
+opens-rows b n h rows bytes handed text e f r none = rw (e, f, none) (r, refl)
 
 -- ---- a row's line
 pub row-there : (places : ℕ) (w : Written) (row : List ℕ) → w ≡ WrittenIs.Row → RowThere places (saysWritten w) row
@@ -44,7 +50,7 @@ abbrev after : Page → ℕ → Page → Page
 after t end next = record {
   number = t .number + 1;
   rows = next .rows;
-  told = next .told;
+  handed = next .handed;
   places = next .places;
   bytes = end;
   going = ltb (t .number + 1) (t .rows);
@@ -57,11 +63,21 @@ after-is t room end = go (leb 85 (room - t .bytes)) refl
     go true e = rw e
     go false e = rw e
 
-pub lines-put : (t : Page) (w : Written) (row text : List ℕ) (next : Page) (end : ℕ) (text′ : List ℕ) → w ≡ WrittenIs.Row
-    → next ≡ withRoom (length text) t → Puts (lineText (take (t .places) row)) (next .bytes) text end text′
-    → Lines t (saysWritten w) row text (after t end next) text′
-lines-put t w row text next end text′ e f p =
-    rw e (
-      subst (λ (u : Page). Puts (lineText (take (t .places) row)) (u .bytes) text end text′) f p,
-      ap (after t end) f ∙ after-is t (length text) end,
-    )
+-- what `put_line` makes of a page and a row that was written
+module _ (t : Page) (w : Written) (written : w ≡ WrittenIs.Row) (row text : List ℕ) (next : Page) (text₁ : List ℕ)
+    (fine : t .handed .failed ≡ false) (M : MakesRoom t text next text₁) where
+  pub lines-put : next .handed .failed ≡ false → (end : ℕ) (text′ : List ℕ) → Puts (lineText (take (t .places) row)) (next .bytes) text₁ end text′
+      → Lines t (saysWritten w) row text (after t end next) text′
+  lines-put still end text′ p =
+      let room = room-made t text next text₁ fine M still in
+      rw written (record {
+        fails = λ failed. absurd (true≢false (sym failed ∙ still));
+        puts = λ _. (room .puts (lineText (take (t .places) row)) end text′ p, ap (after t end) (room .page) ∙ after-is t (length text) end);
+      })
+
+  pub lines-failed : next .handed .failed ≡ true → (text′ : List ℕ) → Lines t (saysWritten w) row text (ended next) text′
+  lines-failed failed text′ =
+      rw written (record {
+        fails = λ _. (refl, omega (arith, room-failed t text next text₁ fine M failed));
+        puts = λ still. absurd (true≢false (sym failed ∙ still));
+      })

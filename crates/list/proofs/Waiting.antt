@@ -1,17 +1,24 @@
--- The page before a line is put, where the line fits and where it might not.
-use mathlib.Core.Bool.{Bool, false, true}
-use mathlib.Core.Path.{_≡_, refl}
+-- The page before a line is put: where the line fits, where it might not and what waits is handed on, and where that fails.
+use mathlib.Core.Bool.{Bool, false, true, true≢false}
+use mathlib.Core.List.{List, _++_}
+use mathlib.Core.Path.{_∙_, _≡_, ap, ap₂, refl, sym}
 use Prim.Native.Nat.{_+_, _-_, _<_, _≤_, ℕ}
 use native.Mathlib.Omega.{arith}
-use borrow.Author.Tests.{le-leb, leb-true, lt-leb}
+use borrow.Author.Tests.{le-leb, leb-false, leb-true, lt-leb}
 use lib.Dec.{leb}
+use lib.IntN.{pos}
+use lib.ListN.{length, take}
+use lib.Seq.{length-take-le}
+use Rattle.list.specs.declared.handed.Handed.{Handed}
 use Rattle.list.specs.declared.page.Page.{Page}
-use Rattle.list.specs.Page.{emptied, withRoom}
+use Rattle.list.specs.Handing.{Due}
+use Rattle.list.specs.Page.{MakesRoom, Waits, passedOn, withRoom}
+use Rattle.list.specs.Text.{Puts}
 
-pub waits-all : (room : ℕ) (t : Page) → 85 ≤ room - t .bytes → withRoom room t ≡ t
+waits-all : (room : ℕ) (t : Page) → 85 ≤ room - t .bytes → withRoom room t ≡ t
 waits-all room t h = rw (le-leb 85 (room - t .bytes) h)
 
-pub waits-none : (room : ℕ) (t : Page) → room - t .bytes < 85 → withRoom room t ≡ emptied t
+waits-none : (room : ℕ) (t : Page) → room - t .bytes < 85 → withRoom room t ≡ passedOn t false
 waits-none room t h = rw (lt-leb 85 (room - t .bytes) h)
 
 -- then a line fits
@@ -21,3 +28,71 @@ waits-room room t long within = go (leb 85 (room - t .bytes)) refl
     go : (c : Bool) → leb 85 (room - t .bytes) ≡ c → withRoom room t .bytes + 85 ≤ room
     go true e = rw e (omega (arith, leb-true 85 (room - t .bytes) e, within))
     go false e = rw e (omega (arith, long))
+
+-- ---- what waits may be handed to standard output
+-- a part of the buffer is as long as it is asked for
+pub count-taken : (n : ℕ) (text : List ℕ) → n ≤ length text → n ≡ length (take n text)
+count-taken n text h = sym (length-take-le n text h)
+
+pub due : (input : List ℕ) (t : Page) (text : List ℕ) → Waits input t text → Due (pos 1) input (t .handed) (take (t .bytes) text)
+due input t text W = record {
+  output = refl;
+  fine = W .fine;
+  next = W .next;
+  countable = omega (arith, W .countable, length-take-le (t .bytes) text (W .within));
+}
+
+-- what `pass_on` has made of a page, as the code makes it
+pub passed : (t : Page) (handed : Handed) → handed .bytes ≡ t .handed .bytes + t .bytes
+    → record { number = t .number; rows = t .rows; handed = handed; places = t .places; bytes = 0; going = t .going } ≡ passedOn t (handed .failed)
+passed t handed e =
+    ap (λ (n : ℕ). record {
+      number = t .number;
+      rows = t .rows;
+      handed = record { bytes = n; failed = handed .failed };
+      places = t .places;
+      bytes = 0;
+      going = t .going;
+    }) e
+
+-- ---- what `make_room` has made of a page
+module _ (t : Page) (text : List ℕ) (next : Page) (text₁ : List ℕ) (fine : t .handed .failed ≡ false) (M : MakesRoom t text next text₁) where
+  -- there is room, and what is put behind what waits stands there
+  pub record Roomy : Type 0 where
+    pub page : next ≡ withRoom (length text) t
+    pub puts : (line : List ℕ) (end : ℕ) (text′ : List ℕ) → Puts line (next .bytes) text₁ end text′
+        → Puts line (withRoom (length text) t .bytes) text end text′
+
+  roomy : next ≡ withRoom (length text) t → take (next .bytes) text₁ ≡ take (withRoom (length text) t .bytes) text → Roomy
+  roomy page same = record {
+    page = page;
+    puts = λ line end text′ p. record {
+      ends = omega (arith, p .ends, ap (λ (u : Page). u .bytes) page);
+      stands = p .stands ∙ ap (λ (m : List ℕ). m ++ line) same;
+    };
+  }
+
+  pub room-made : next .handed .failed ≡ false → Roomy
+  room-made still = go (leb 85 (length text - t .bytes)) refl
+    where
+      go : (c : Bool) → leb 85 (length text - t .bytes) ≡ c → Roomy
+      go true e =
+          let fits = leb-true 85 (length text - t .bytes) e in
+          let page : next ≡ withRoom (length text) t = M .keeps fits .0 ∙ sym (waits-all (length text) t fits) in
+          roomy page (ap₂ (λ (u : Page) (m : List ℕ). take (u .bytes) m) page (M .keeps fits .1))
+      go false e =
+          let full = leb-false 85 (length text - t .bytes) e in
+          let empty : next ≡ passedOn t false = M .passes full ∙ ap (passedOn t) still in
+          let none = waits-none (length text) t full in
+          roomy (empty ∙ sym none)
+          (ap (λ (u : Page). take (u .bytes) text₁) empty ∙ ap (λ (u : Page). take (u .bytes) text) (sym none))
+
+  -- handing on has failed, and nothing waits
+  pub room-failed : next .handed .failed ≡ true → next .bytes ≡ 0
+  room-failed failed = go (leb 85 (length text - t .bytes)) refl
+    where
+      go : (c : Bool) → leb 85 (length text - t .bytes) ≡ c → next .bytes ≡ 0
+      go true e =
+          let same = M .keeps (leb-true 85 (length text - t .bytes) e) .0 in
+          absurd (true≢false (sym failed ∙ ap (λ (u : Page). u .handed .failed) same ∙ fine))
+      go false e = ap (λ (u : Page). u .bytes) (M .passes (leb-false 85 (length text - t .bytes) e))

@@ -1,8 +1,8 @@
--- What is told of a set and of an input: the program's text, of which the first bytes are written and the others wait.
+-- What is told of a set and of an input: the program's text, of which the first bytes are handed on and the others wait.
 use mathlib.Core.Bool.{true, false}
 use mathlib.Core.List.{List, _++_}
 use mathlib.Core.Path.{_≡_}
-use Prim.Native.Nat.{ℕ, _+_, _≤_}
+use Prim.Native.Nat.{ℕ, _+_, _≤_, _<_, _^_}
 use lib.Dec.{ltb}
 use lib.ListN.{length, take}
 use Rattle.list.specs.declared.page.Page.{Page}
@@ -13,8 +13,9 @@ use Rattle.paper.specs.declared.Record.{Record}
 use Rattle.paper.specs.declared.Set.the-variants as SetIs
 use Rattle.paper.specs.Questions.{countOf, questionWork}
 use Rattle.paper.specs.Records.{listing}
-use Rattle.paper.specs.Refusals.{answer, program}
+use Rattle.paper.specs.Refusals.{answer}
 use Rattle.paper.specs.Sound.{sound}
+use Rattle.list.specs.Handing.{textOf}
 use Rattle.list.specs.Text.{factText, linesText, programText, recordsWord, rowsWord}
 
 -- the built set, or one that lists nothing
@@ -22,10 +23,11 @@ abbrev pub headOf : Built → Head
 headOf (BuiltIs.Set h) = h
 headOf (BuiltIs.Refused why) = record { nodes = 0; arity = 0; places = 0; used = 0; set = SetIs.Empty }
 
--- `told` bytes of the text are written, and those that wait are the next ones, up to the end of `far`
+-- so many bytes of the text are handed on, and those that wait are the next ones, up to the end of `far`
 pub record Tells (whole far : List ℕ) (t : Page) (text : List ℕ) : Type 0 where
-  pub next : take (t .told) whole ++ take (t .bytes) text ≡ far
-  pub bytes : t .told + t .bytes ≡ length far
+  pub next : take (t .handed .bytes) whole ++ take (t .bytes) text ≡ far
+  pub bytes : t .handed .bytes + t .bytes ≡ length far
+  pub countable : length far < 2 ^ 64
   pub within : t .bytes ≤ length text
 
 -- the buffer is long enough for a line, and holds what waits
@@ -48,6 +50,7 @@ module _ (h : Head) (table : List Record) where
     pub rows : t .rows ≡ countOf h table
     pub number : t .number ≤ t .rows
     pub more : t .going ≡ ltb (t .number) (t .rows)
+    pub fine : t .handed .failed ≡ false
     pub tells : Tells setText (linesTo (t .number)) t text
 
   -- every row by number is answered, with so much work
@@ -55,15 +58,16 @@ module _ (h : Head) (table : List Record) where
     pub enough : questionWork h ≤ cells
     pub is-sound : sound h table ≡ true
 
-  -- what `rows` asks for, and what it does: nothing if no row is to be told, else all of the set is told
-  pub record Ready (s : Page) (work text : List ℕ) : Type 0 where
+  -- what `rows` asks for: where rows are to be told, that they can be, and are those of the input
+  pub record Ready (s : Page) (work text input : List ℕ) : Type 0 where
     pub room : Fits s text
-    pub goes : s .going ≡ true → Listable (length work) × Going s text
+    pub goes : s .going ≡ true → Listable (length work) × Going s text × (setText ≡ textOf input)
 
+  -- what it does: nothing if no row is to be told, else all of the set is told, unless handing on fails
   pub record Rows (s : Page) (text : List ℕ) (r : Page) (text′ : List ℕ) : Type 0 where
     pub none : s .going ≡ false → (r ≡ s) × (text′ ≡ text)
-    pub all : s .going ≡ true → Tells setText setText r text′
+    pub all : s .going ≡ true → r .handed .failed ≡ false → Tells setText setText r text′
 
--- all that the program tells of an input
+-- all that the program tells of an input, unless handing on fails
 pub record Lists (input : List ℕ) (t : Page) (text : List ℕ) : Type 0 where
-  pub tells : Tells (programText (program input)) (programText (program input)) t text
+  pub tells : t .handed .failed ≡ false → Tells (textOf input) (textOf input) t text

@@ -2,13 +2,16 @@
 ghost use mathlib.Core.Path.{_≡_};
 ghost use Prim.Native.Nat.{_≤_};
 ghost use lib.ListN.{length};
+ghost use Rattle.list.specs.Handing.{HandsOn};
 ghost use Rattle.list.specs.Listing.{headOf, Ready, Rows, Lists};
+use crate::handed::Handed;
+use crate::handed::has_failed;
 use crate::page::Page;
 use crate::page::open_page;
+use crate::page::pass_on;
 use crate::page::put_line;
 use crate::page::refuse;
 use libc::STDIN_FILENO;
-use libc::STDOUT_FILENO;
 use paper::Built;
 use paper::Flag;
 use paper::Head;
@@ -16,6 +19,7 @@ use paper::Record;
 use paper::Refusal;
 use paper::Set;
 
+mod handed;
 mod page;
 mod text;
 
@@ -36,8 +40,15 @@ fn head_of(built: Built) -> Head
 }
 
 // The rows that are still to be told, a line each.
-fn rows(head: Head, table: &[Record], s: Page, work: &mut [u64], text: &mut [u8]) -> Page
-    requires { ⌜ Ready head (now table) s (now work) (now text) ⌝ }
+fn rows(
+    head: Head,
+    table: &[Record],
+    s: Page,
+    work: &mut [u64],
+    text: &mut [u8],
+    input: &[u8],
+) -> Page
+    requires { ⌜ Ready head (now table) s (now work) (now text) (now input) ⌝ }
     ensures { λ r. ⌜ Rows head (now (table .entry)) s (now (text .entry)) r (now (text .exit)) ⌝ }
 {
     let mut row: [u16; 4] = [0; 4];
@@ -45,12 +56,12 @@ fn rows(head: Head, table: &[Record], s: Page, work: &mut [u64], text: &mut [u8]
     while t.going {
         let number = t.number;
         let written = row::row(head, table, &mut *work, number, &mut row);
-        t = put_line(t, written, &row, &mut *text);
+        t = put_line(t, written, &row, input, &mut *text);
     }
     t
 }
 
-// What is told of an input, with a table of 2,000 entries and a work of 16,384 numbers.
+// What is told of an input, up to what waits, with a table of 2,000 entries and a work of 16,384 numbers.
 fn list(input: &[u8], text: &mut [u8]) -> Page
     requires { ⌜ (length (now input) ≤ 16384) × (85 ≤ length (now text)) × (length (now text) ≤ 65536) ⌝ }
     ensures { λ r. ⌜ Lists (now (input .entry)) r (now (text .exit)) ⌝ }
@@ -68,7 +79,7 @@ fn list(input: &[u8], text: &mut [u8]) -> Page
     let head = head_of(built);
     let counted = sound::count(head, &table, &mut work);
     let s = open_page(built, counted, &mut *text);
-    rows(head, &table, s, &mut work, &mut *text)
+    rows(head, &table, s, &mut work, &mut *text, input)
 }
 
 // An input that is too long is refused before all.
@@ -82,12 +93,24 @@ fn answer(input: &[u8], text: &mut [u8]) -> Page
     list(input, &mut *text)
 }
 
+// All that is told of an input, handed on.
+fn tell(input: &[u8], text: &mut [u8]) -> Handed
+    requires { ⌜ (85 ≤ length (now text)) × (length (now text) ≤ 65536) ⌝ }
+    ensures { λ r. ⌜ HandsOn (now (input .entry)) r ⌝ }
+{
+    let page = answer(input, &mut *text);
+    let handed = page.handed;
+    if has_failed(handed) {
+        return handed;
+    }
+    let last = pass_on(input, page, &mut *text);
+    last.handed
+}
+
 // One byte more is read than the program takes, to see an input that is too long.
 fn main() {
     let mut input = [0u8; 16385];
     let mut text = io::large_buffer();
     let n = io::read_full(STDIN_FILENO, &mut input);
-    let page = answer(&input[..n], &mut text);
-    let bytes = page.bytes;
-    io::write_all(STDOUT_FILENO, &text[..bytes]);
+    tell(&input[..n], &mut text);
 }

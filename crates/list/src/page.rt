@@ -1,9 +1,13 @@
 // The listing as it goes: what is still to be told, and the text that waits to be written.
 ghost use mathlib.Core.Path.{_≡_};
-ghost use Prim.Native.Nat.{_+_, _≤_, _<_, _^_};
+ghost use Prim.Native.Nat.{_≤_};
 ghost use lib.ListN.{length};
 ghost use Rattle.paper.specs.Answers.{numberOf, saysBuilt, saysCounted, saysWritten};
-ghost use Rattle.list.specs.Page.{Facts, Refuses, Opens, LineReady, Lines, withRoom};
+ghost use Rattle.list.specs.Page.{Facts, Refuses, Opens, Waits, passedOn, MakesRoom, LineReady, Lines};
+use crate::handed::Handed;
+use crate::handed::hand_on;
+use crate::handed::has_failed;
+use crate::handed::nothing;
 use crate::text::put_fact;
 use crate::text::put_row;
 use libc::STDOUT_FILENO;
@@ -13,11 +17,12 @@ use paper::Head;
 use paper::Refusal;
 use paper::Written;
 
-// `number` is the next row's, of so many rows with so many places. `told` bytes have been written, and `bytes` of the text wait.
+// `number` is the next row's, of so many rows with so many places. `handed` tells what was handed on, and the first `bytes` of the text
+// wait.
 pub(crate) struct Page {
     pub(crate) number: u64,
     pub(crate) rows: u64,
-    pub(crate) told: u64,
+    pub(crate) handed: Handed,
     pub(crate) places: usize,
     pub(crate) bytes: usize,
     pub(crate) going: bool,
@@ -37,7 +42,7 @@ pub(crate) fn refuse(why: Refusal, text: &mut [u8]) -> Page
     Page {
         number: 0,
         rows: 0,
-        told: 0,
+        handed: nothing(),
         places: 0,
         bytes: bytes,
         going: false,
@@ -73,7 +78,7 @@ pub(crate) fn open_page(built: Built, counted: Counted, text: &mut [u8]) -> Page
                 Page {
                     number: 0,
                     rows: rows,
-                    told: 0,
+                    handed: nothing(),
                     places: head.arity as usize,
                     bytes: bytes,
                     going: rows > 0,
@@ -83,25 +88,40 @@ pub(crate) fn open_page(built: Built, counted: Counted, text: &mut [u8]) -> Page
     }
 }
 
-// What waits is written and counted as told, if a line might not fit behind it. Nothing else counts bytes as told.
-fn make_room(t: Page, text: &[u8]) -> Page
-    requires { ⌜ (t .bytes ≤ length (now text)) × (t .told + t .bytes < 2 ^ 64) ⌝ }
-    ensures { λ r. ⌜ r ≡ withRoom (length (now (text .entry))) t ⌝ }
+// What waits is handed on.
+pub(crate) fn pass_on(input: &[u8], t: Page, text: &mut [u8]) -> Page
+    requires { ⌜ Waits (now input) t (now text) ⌝ }
+    ensures { λ r. ⌜ r ≡ passedOn t (r .handed .failed) ⌝ }
 {
     let bytes = t.bytes;
-    if text.len() - bytes >= 85 {
-        return t;
-    }
-    io::write_all(STDOUT_FILENO, &text[..bytes]);
+    let before = t.handed;
+    let handed = hand_on(STDOUT_FILENO, input, before, &mut text[..bytes]);
     let mut next = t;
-    next.told = t.told + bytes as u64;
+    next.handed = handed;
     next.bytes = 0;
     next
 }
 
-// The line of the next row, which stands in `row` if it was written there.
-pub(crate) fn put_line(t: Page, written: Written, row: &[u16], text: &mut [u8]) -> Page
-    requires { ⌜ LineReady t (saysWritten written) (now row) (now text) ⌝ }
+// What waits is handed on, if a line might not fit behind it.
+fn make_room(input: &[u8], t: Page, text: &mut [u8]) -> Page
+    requires { ⌜ Waits (now input) t (now text) ⌝ }
+    ensures { λ r. ⌜ MakesRoom t (now (text .entry)) r (now (text .exit)) ⌝ }
+{
+    if text.len() - t.bytes >= 85 {
+        return t;
+    }
+    pass_on(input, t, &mut *text)
+}
+
+// The line of the next row, which stands in `row` if it was written there. Where handing on fails nothing more is to come.
+pub(crate) fn put_line(
+    t: Page,
+    written: Written,
+    row: &[u16],
+    input: &[u8],
+    text: &mut [u8],
+) -> Page
+    requires { ⌜ LineReady (now input) t (saysWritten written) (now row) (now text) ⌝ }
     ensures { λ r. ⌜ Lines t (saysWritten written) (now (row .entry)) (now (text .entry)) r (now (text .exit)) ⌝ }
 {
     let mut next = t;
@@ -110,10 +130,15 @@ pub(crate) fn put_line(t: Page, written: Written, row: &[u16], text: &mut [u8]) 
             next.going = false;
         }
         Written::Row => {
-            next = make_room(t, &*text);
-            next.bytes = put_row(&mut *text, next.bytes, row, t.places);
-            next.number = t.number + 1;
-            next.going = next.number < t.rows;
+            next = make_room(input, t, &mut *text);
+            let handed = next.handed;
+            if has_failed(handed) {
+                next.going = false;
+            } else {
+                next.bytes = put_row(&mut *text, next.bytes, row, t.places);
+                next.number = t.number + 1;
+                next.going = next.number < t.rows;
+            }
         }
     }
     next

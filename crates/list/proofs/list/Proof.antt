@@ -12,6 +12,7 @@ use base.Fml.{fdies}
 use mathlib.Core.List.{_++_}
 use mir.Val.{vptr}
 use lib.ListN.{drop as past, take}
+use denote.Slice.{shr-slice-copy}
 use Rattle.table.proofs.Steps.{big-lit, elements, part, sets, slice-typed, value}
 use Rattle.table.proofs.Parameters.{goes-shown, goes-still, gone, shown, still}
 use Rattle.table.proofs.Locals.{Blocks, Hold, bare, enters, envOf, finish, full, leaves, locals, span}
@@ -224,25 +225,25 @@ module _ {M : Type 1} (𝓤 : URA M) (H : Heap 𝓤) (A : Atoms 𝓤) (W : Given
       abbrev to-rows : Head → List Record → Page → List ℕ → List ℕ → ℕ → GName → ℕ → GName → ℕ → GName → Rest .Ghost
       to-rows h t s w m ν δ νʷ δʷ νᵗ δᵗ = (
         (
-          (ν ∷ [], (νʷ ∷ [], (νᵗ ∷ [], tt))),
-          (fullShare, (fullShare, (fullShare, tt))),
+          (ν ∷ [], (νʷ ∷ [], (νᵗ ∷ [], (κⁱ, tt)))),
+          (fullShare, (fullShare, (fullShare, (qⁱ, tt)))),
           tt,
-          (h, (at-list Entry l 0 δ t, (s, (at-list u64 lʷ 0 δʷ w, (at-list u8 bᵗ oᵗ δᵗ m, tt))))),
-          (head .low h ∷ [], (table-slice ∷ [], (machine shape s ∷ [], (work-slice ∷ [], (text-slice ∷ [], tt))))),
+          (h, (at-list Entry l 0 δ t, (s, (at-list u64 lʷ 0 δʷ w, (at-list u8 bᵗ oᵗ δᵗ m, (at-list u8 bⁱ oⁱ γⁱ input, tt)))))),
+          (head .low h ∷ [], (table-slice ∷ [], (machine shape s ∷ [], (work-slice ∷ [], (text-slice ∷ [], (input-slice ∷ [], tt)))))),
         ),
         tt,
       )
 
-      goes-rows : (h : Head) → Good head h → (t : List Record) (s : Page) → Is P.the-row s (machine shape s ∷ []) → (w m : List ℕ) → Ready h t s w m
+      goes-rows : (h : Head) → Good head h → (t : List Record) (s : Page) → Is P.the-row s (machine shape s ∷ []) → (w m : List ℕ) → Ready h t s w m input
           → (ν : ℕ) (δ : GName) (νʷ : ℕ) (δʷ : GName) (νᵗ : ℕ) (δᵗ : GName)
-          → ent 𝓤 (⋆ 𝓤 H A (‵ (flft (ν ∷ []) fullShare) ∷ ‵ (flft (νʷ ∷ []) fullShare) ∷ ‵ (flft (νᵗ ∷ []) fullShare) ∷ ‵ (Seen Entry l 0 (ν ∷ []) δ 2000 t)
-          ∷ ‵ (Mine u64 lʷ 0 (νʷ ∷ []) δʷ 16384 w) ∷ ‵ (Mine u8 bᵗ oᵗ (νᵗ ∷ []) δᵗ (length text) m) ∷ []))
+          → ent 𝓤 (⋆ 𝓤 H A (‵ (flft (ν ∷ []) fullShare) ∷ ‵ (flft (νʷ ∷ []) fullShare) ∷ ‵ (flft (νᵗ ∷ []) fullShare) ∷ ‵ (flft κⁱ qⁱ) ∷ ‵ (Seen Entry l 0 (ν ∷ []) δ 2000 t)
+          ∷ ‵ (Mine u64 lʷ 0 (νʷ ∷ []) δʷ 16384 w) ∷ ‵ (Mine u8 bᵗ oᵗ (νᵗ ∷ []) δᵗ (length text) m) ∷ ‵ Input ∷ []))
           (Rest .pre (to-rows h t s w m ν δ νʷ δʷ νᵗ δᵗ))
       goes-rows h good t s good′ w m ok ν δ νʷ δʷ νᵗ δᵗ =
-          qed W (‵ (flft (ν ∷ []) fullShare) ∷ ‵ (flft (νʷ ∷ []) fullShare) ∷ ‵ (flft (νᵗ ∷ []) fullShare) ∷ ‵ (Seen Entry l 0 (ν ∷ []) δ 2000 t)
-          ∷ ‵ (Mine u64 lʷ 0 (νʷ ∷ []) δʷ 16384 w) ∷ ‵ (Mine u8 bᵗ oᵗ (νᵗ ∷ []) δᵗ (length text) m) ∷ []) ∵
-          says ! ok $ nothing ! $ move ! (3 ∷ 0 ∷ []) $ join ! $ move ! (2 ∷ 0 ∷ []) $ join ! $ move ! (1 ∷ 0 ∷ []) $ join ! $ frame ! $
-          nothing ! $ move ! (3 ∷ 0 ∷ []) $ fjoin ! $ move ! (2 ∷ 0 ∷ []) $ fjoin ! $
+          qed W (‵ (flft (ν ∷ []) fullShare) ∷ ‵ (flft (νʷ ∷ []) fullShare) ∷ ‵ (flft (νᵗ ∷ []) fullShare) ∷ ‵ (flft κⁱ qⁱ) ∷ ‵ (Seen Entry l 0 (ν ∷ []) δ 2000 t)
+          ∷ ‵ (Mine u64 lʷ 0 (νʷ ∷ []) δʷ 16384 w) ∷ ‵ (Mine u8 bᵗ oᵗ (νᵗ ∷ []) δᵗ (length text) m) ∷ ‵ Input ∷ []) ∵
+          says ! ok $ nothing ! $ move ! (4 ∷ 0 ∷ []) $ join ! $ move ! (3 ∷ 0 ∷ []) $ join ! $ move ! (2 ∷ 0 ∷ []) $ join ! $ move ! (1 ∷ 0 ∷ []) $ join ! $ frame ! $
+          nothing ! $ move ! (4 ∷ 0 ∷ []) $ fjoin ! $ move ! (3 ∷ 0 ∷ []) $ fjoin ! $ move ! (2 ∷ 0 ∷ []) $ fjoin ! $
           owned ! P.the-row (Is P.the-row) (state-makes shape 𝓤 H A) s (machine shape s ∷ []) good′ $ fjoin ! $ move ! (1 ∷ 0 ∷ []) $ fjoin ! $
           owns-value head ! h good $ fjoin ! $ done !
 
@@ -261,9 +262,9 @@ module _ {M : Type 1} (𝓤 : URA M) (H : Heap 𝓤) (A : Atoms 𝓤) (W : Given
         abbrev lʷ : ℕ
         lʷ = bs .1 .1 .1 .1 .1 .0
 
-        -- [the table; the work; the text; its token; the input's; local j at 5 + 2 * j, for j below 4; that 4 dies, and 5; local j at 3 + 2 * j]
+        -- [the table; the work; the text; its token; the input's; the input; local j at 6 + 2 * j, for j below 4; that 4 dies, and 5; local j at 4 + 2 * j]
         abbrev Context : List Record → List ℕ → List ℕ → List Hold → List (Item 𝓤)
-        Context t w m more = ‵ (Elements entries l t) ∷ ‵ (Elements (numbers w64) lʷ w) ∷ ‵ (Text m) ∷ ‵ (flft κᵗ qᵗ) ∷ ‵ (flft κⁱ qⁱ)
+        Context t w m more = ‵ (Elements entries l t) ∷ ‵ (Elements (numbers w64) lʷ w) ∷ ‵ (Text m) ∷ ‵ (flft κᵗ qᵗ) ∷ ‵ (flft κⁱ qⁱ) ∷ ‵ Input
             ∷ locals (take 4 env) (bare ∷ full input-slice ∷ full text-slice ∷ full (lowered blankEntry) ∷ [])
             (‵ (fdies (ArrayTy entries 2000) l) ∷ ‵ (fdies (ArrayTy (numbers w64) 16384) lʷ) ∷ locals (past 6 env) more [])
 
@@ -279,40 +280,40 @@ module _ {M : Type 1} (𝓤 : URA M) (H : Heap 𝓤) (A : Atoms 𝓤) (W : Given
 
         -- the rows are told
         tells : (r : Built) (h : Head) (n : Counted) (s : Page) (t : List Record) (w m : List ℕ) → Good head h → Is P.the-row s (machine shape s ∷ [])
-            → length t ≡ 2000 → length w ≡ 16384 → length m ≡ length text → Ready h t s w m
+            → length t ≡ 2000 → length w ≡ 16384 → length m ≡ length text → Ready h t s w m input
             → ((e : Page) (m′ : List ℕ) → Rows h t s m e m′ → Lists input e m′)
             → Sq W (Context t w m (full (built .low r) ∷ full (head .low h) ∷ full (counted .low n) ∷ full (machine shape s)
             ∷ work-loan (table-loan (table-loan (work-loan (text-loan [])))))) (runs (𝓣 .C) (𝓣 .Λ) env body.t-18 (atRet env Post))
         tells r h n s t w m head-good page-good t-long w-long m-long ready lists =
-            sets ! 43 refl (addr ! (from ! (stop !))) (tt, tt) $
-            sets ! 45 refl (agg ! (and-then ! (value ! 43 refl) (and-then ! (big-lit (record { fits = lit< tt })) (no-more !)))) (slice-typed (lit< tt)) $
-            sets ! 47 refl (addr ! (from ! (stop !))) (tt, tt) $
-            sets ! 49 refl (agg ! (and-then ! (value ! 47 refl) (and-then ! (big-lit (record { fits = lit< tt })) (no-more !)))) (slice-typed (lit< tt)) $
-            sets ! 51 refl (elements ! 9 refl refl refl refl) (tt, tt) $
-            sets ! 53 refl (agg ! (and-then ! (value ! 51 refl) (and-then ! (part ! 9 refl refl refl) (no-more !)))) (slice-typed (text-room .0)) $
+            sets ! 44 refl (addr ! (from ! (stop !))) (tt, tt) $
+            sets ! 46 refl (agg ! (and-then ! (value ! 44 refl) (and-then ! (big-lit (record { fits = lit< tt })) (no-more !)))) (slice-typed (lit< tt)) $
+            sets ! 48 refl (addr ! (from ! (stop !))) (tt, tt) $
+            sets ! 50 refl (agg ! (and-then ! (value ! 48 refl) (and-then ! (big-lit (record { fits = lit< tt })) (no-more !)))) (slice-typed (lit< tt)) $
+            sets ! 52 refl (elements ! 10 refl refl refl refl) (tt, tt) $
+            sets ! 54 refl (agg ! (and-then ! (value ! 52 refl) (and-then ! (part ! 10 refl refl refl) (no-more !)))) (slice-typed (text-room .0)) $
             shows-array ! tt entries l t 2000 table-room t-long (λ ν δ.
             move ! (3 ∷ []) $ lends-array ! tt (numbers w64) lʷ w 16384 work-room w-long (λ νʷ δʷ.
             move ! (6 ∷ 7 ∷ []) $ lends ! tt u8 bᵗ oᵗ m (length text) m-long (λ νᵗ δᵗ.
-            move ! (7 ∷ 4 ∷ 0 ∷ 8 ∷ 5 ∷ 1 ∷ []) $ group ! 6 $
+            move ! (7 ∷ 4 ∷ 0 ∷ 10 ∷ 8 ∷ 5 ∷ 1 ∷ 11 ∷ []) $ group ! 8 $
             use1 W (raw (Rest .pre (to-rows l lʷ h t s w m ν δ νʷ δʷ νᵗ δᵗ))) (goes-rows l lʷ h head-good t s page-good w m ready ν δ νʷ δʷ νᵗ δᵗ) $
             calls ! (fmOf 𝓤 H (W .laws) 𝓣) rows.ended (rows.clauses 𝓤 H A mem run) known-rows (to-rows l lʷ h t s w m ν δ νʷ δʷ νᵗ δᵗ)
             (machine shape) (state-tells shape)
-            (and-then ! (value ! 18 refl) (and-then ! (value ! 46 refl) (and-then ! (value ! 22 refl) (and-then ! (value ! 50 refl)
-            (and-then ! (value ! 54 refl) (no-more !))))))
+            (and-then ! (value ! 17 refl) (and-then ! (value ! 45 refl) (and-then ! (value ! 21 refl) (and-then ! (value ! 49 refl)
+            (and-then ! (value ! 53 refl) (and-then ! (value ! 7 refl) (no-more !)))))))
             (λ e us good. heard ! (Rows h t s m e (us .1 .1 .1 .1 .0)) (λ told.
-            use1 W (‵ (flft (ν ∷ []) fullShare) ⊛ ‵ (flft (νʷ ∷ []) fullShare) ⊛ ‵ (flft (νᵗ ∷ []) fullShare) ⊛ ‵ ftrue) (id⊢ 𝓤 _) $
-            split3 ! $ move ! (2 ∷ []) $ split ! $
-            move ! (4 ∷ []) $ fsplit ! $ drop ! $ fsplit ! $ drop ! $ fsplit ! $ drop ! $ fsplit ! $ fsplit ! $ move ! (1 ∷ []) $ feqL ! (λ work-long.
+            use1 W (‵ (flft (ν ∷ []) fullShare) ⊛ ‵ (flft (νʷ ∷ []) fullShare) ⊛ ‵ (flft (νᵗ ∷ []) fullShare) ⊛ ‵ (flft κⁱ qⁱ) ⊛ ‵ ftrue) (id⊢ 𝓤 _) $
+            split3 ! $ move ! (2 ∷ []) $ split3 ! $
+            move ! (5 ∷ []) $ fsplit ! $ drop ! $ fsplit ! $ drop ! $ fsplit ! $ drop ! $ fsplit ! $ fsplit ! $ move ! (1 ∷ []) $ feqL ! (λ work-long.
             move ! (1 ∷ []) $ fsplit ! $ fsplit ! $ move ! (1 ∷ []) $ feqL ! (λ text-long.
-            -- [the text's last list; true; the work's; the text's token; true; the table's; the work's; the text's loan; who waits; the work's; the table's; the input's token; the locals from 12 on]
-            move ! (3 ∷ 0 ∷ 7 ∷ 8 ∷ []) $ has-back ! tt u8 bᵗ oᵗ m (us .1 .1 .1 .1 .0) (length text) text-room m-long (text-long ∙ m-long) $
-            move ! (6 ∷ 3 ∷ 7 ∷ []) $ array-back ! tt (numbers w64) lʷ w (us .1 .1 .1 .0) $
-            move ! (5 ∷ 6 ∷ []) $ array-shown ! tt entries l t $
+            -- [the text's last list; the input; the work's; the text's token; the input's; true; the table's; the work's; the text's loan; who waits; the work's; the table's; the locals from 12 on]
+            move ! (3 ∷ 0 ∷ 8 ∷ 9 ∷ []) $ has-back ! tt u8 bᵗ oᵗ m (us .1 .1 .1 .1 .0) (length text) text-room m-long (text-long ∙ m-long) $
+            move ! (7 ∷ 3 ∷ 8 ∷ []) $ array-back ! tt (numbers w64) lʷ w (us .1 .1 .1 .0) $
+            move ! (6 ∷ 7 ∷ []) $ array-shown ! tt entries l t $
             -- the arrays are given up
             use1 W (‵ (froom (ArrayTy entries 2000) l 0)) (array-room 𝓤 H A W entries 2000 l t t-long) $
             move ! (1 ∷ []) $
             use1 W (‵ (froom (ArrayTy (numbers w64) 16384) lʷ 0)) (array-room 𝓤 H A W (numbers w64) 16384 lʷ (us .1 .1 .1 .0) (work-long ∙ w-long)) $
-            keep ! (2 ∷ 3 ∷ 6 ∷ span 7 8 ++ (1 ∷ 15 ∷ 0 ∷ 16 ∷ span 17 40)) $
+            keep ! (2 ∷ 3 ∷ 5 ∷ span 7 8 ++ (1 ∷ 15 ∷ 0 ∷ 16 ∷ span 17 40)) $
             land ! (from ! (stop !)) (init ! 3 refl (state-typed shape W e good)) $
             move ! (span 3 52) $ leaves ! (machine shape e) (full _ ∷ full _ ∷ full _ ∷ bare ∷ bare ∷ full _ ∷ full _ ∷ full _ ∷ full _ ∷ full _ ∷ full _ ∷ full _
             ∷ full _ ∷ full _ ∷ full _ ∷ full _ ∷ full _ ∷ full _ ∷ full _ ∷ full _ ∷ full _ ∷ full _ ∷ full _ ∷ full _ ∷ full _ ∷ []) $
@@ -322,23 +323,23 @@ module _ {M : Type 1} (𝓤 : URA M) (H : Heap 𝓤) (A : Atoms 𝓤) (W : Given
         opens : (r : Built) (h : Head) (n : Counted) (t : List Record) (w : List ℕ) → Good built r → Good head h → Good counted n
             → length t ≡ 2000 → length w ≡ 16384 → (58 ≤ length text) × (length text ≤ 65536)
             → ((s : Page) (m : List ℕ) → length m ≡ length text → Opens (saysBuilt r) (saysCounted n) s m
-            → Ready h t s w m × ((e : Page) (m′ : List ℕ) → Rows h t s m e m′ → Lists input e m′))
+            → Ready h t s w m input × ((e : Page) (m′ : List ℕ) → Rows h t s m e m′ → Lists input e m′))
             → Sq W (Context t w text (full (built .low r) ∷ full (head .low h) ∷ full (counted .low n) ∷ bare
             ∷ work-loan (table-loan (table-loan (work-loan []))))) (runs (𝓣 .C) (𝓣 .Λ) env body.t-15 (atRet env Post))
         opens r h n t w built-good head-good counted-good t-long w-long ok then =
-            sets ! 39 refl (elements ! 9 refl refl refl refl) (tt, tt) $
-            sets ! 41 refl (agg ! (and-then ! (value ! 39 refl) (and-then ! (part ! 9 refl refl refl) (no-more !)))) (slice-typed (text-room .0)) $
+            sets ! 40 refl (elements ! 10 refl refl refl refl) (tt, tt) $
+            sets ! 42 refl (agg ! (and-then ! (value ! 40 refl) (and-then ! (part ! 10 refl refl refl) (no-more !)))) (slice-typed (text-room .0)) $
             move ! (2 ∷ 3 ∷ []) $ lends ! tt u8 bᵗ oᵗ text (length text) refl (λ ν δ.
             group ! 2 $ use1 W (raw (Open .pre (to-open l lʷ r n ν δ))) (goes-open l lʷ r built-good n counted-good ok ν δ) $
             calls ! (fmOf 𝓤 H (W .laws) 𝓣) open-page.ended (open-page.clauses 𝓤 H A mem run) known-open (to-open l lʷ r n ν δ)
             (machine shape) (state-tells shape)
-            (and-then ! (value ! 16 refl) (and-then ! (value ! 20 refl) (and-then ! (value ! 42 refl) (no-more !))))
+            (and-then ! (value ! 17 refl) (and-then ! (value ! 21 refl) (and-then ! (value ! 43 refl) (no-more !))))
             (λ s us good. heard ! (Opens (saysBuilt r) (saysCounted n) s (us .1 .1 .0)) (λ g.
             use1 W (‵ (flft (ν ∷ []) fullShare) ⊛ ‵ ftrue) (id⊢ 𝓤 _) $ split ! $
             move ! (2 ∷ []) $ fsplit ! $ drop ! $ fsplit ! $ drop ! $ fsplit ! $ fsplit ! $ move ! (1 ∷ []) $ feqL ! (λ text-long.
             move ! (2 ∷ 0 ∷ 4 ∷ 5 ∷ []) $ has-back ! tt u8 bᵗ oᵗ text (us .1 .1 .0) (length text) text-room refl text-long $
-            keep ! (4 ∷ 5 ∷ 0 ∷ 1 ∷ 6 ∷ span 7 50) $
-            land ! (from ! (stop !)) (init ! 21 refl (state-typed shape W s good)) $
+            keep ! (4 ∷ 5 ∷ 0 ∷ 1 ∷ 6 ∷ 7 ∷ span 8 50) $
+            land ! (from ! (stop !)) (init ! 22 refl (state-typed shape W s good)) $
             tells r h n s t w (us .1 .1 .0) head-good good t-long w-long text-long (then s (us .1 .1 .0) text-long g .0) (then s (us .1 .1 .0) text-long g .1)))))
 
         -- the rows are counted
@@ -346,28 +347,28 @@ module _ {M : Type 1} (𝓤 : URA M) (H : Heap 𝓤) (A : Atoms 𝓤) (W : Given
             → length t ≡ 2000 → length w ≡ 16384 → (58 ≤ length text) × (length text ≤ 65536)
             → ((n : Counted) (w′ : List ℕ) → length w′ ≡ 16384 → Counts h t w n w′
             → (s : Page) (m : List ℕ) → length m ≡ length text → Opens (saysBuilt r) (saysCounted n) s m
-            → Ready h t s w′ m × ((e : Page) (m′ : List ℕ) → Rows h t s m e m′ → Lists input e m′))
+            → Ready h t s w′ m input × ((e : Page) (m′ : List ℕ) → Rows h t s m e m′ → Lists input e m′))
             → Sq W (Context t w text (full (built .low r) ∷ full (head .low h) ∷ bare ∷ bare ∷ work-loan (table-loan [])))
             (runs (𝓣 .C) (𝓣 .Λ) env body.t-10 (atRet env Post))
         counts r h t w built-good head-good t-long w-long ok then =
-            sets ! 31 refl (addr ! (from ! (stop !))) (tt, tt) $
-            sets ! 33 refl (agg ! (and-then ! (value ! 31 refl) (and-then ! (big-lit (record { fits = lit< tt })) (no-more !)))) (slice-typed (lit< tt)) $
-            sets ! 35 refl (addr ! (from ! (stop !))) (tt, tt) $
-            sets ! 37 refl (agg ! (and-then ! (value ! 35 refl) (and-then ! (big-lit (record { fits = lit< tt })) (no-more !)))) (slice-typed (lit< tt)) $
+            sets ! 32 refl (addr ! (from ! (stop !))) (tt, tt) $
+            sets ! 34 refl (agg ! (and-then ! (value ! 32 refl) (and-then ! (big-lit (record { fits = lit< tt })) (no-more !)))) (slice-typed (lit< tt)) $
+            sets ! 36 refl (addr ! (from ! (stop !))) (tt, tt) $
+            sets ! 38 refl (agg ! (and-then ! (value ! 36 refl) (and-then ! (big-lit (record { fits = lit< tt })) (no-more !)))) (slice-typed (lit< tt)) $
             shows-array ! tt entries l t 2000 table-room t-long (λ ν δ.
             move ! (3 ∷ []) $ lends-array ! tt (numbers w64) lʷ w 16384 work-room w-long (λ νʷ δʷ.
             move ! (3 ∷ 0 ∷ 4 ∷ 1 ∷ []) $ group ! 4 $
             use1 W (raw (Count .pre (to-count l lʷ h t w ν δ νʷ δʷ))) (goes-count l lʷ h head-good t w ν δ νʷ δʷ) $
             calls ! (fmOf 𝓤 H (W .laws) 𝓣) count.ended (count.clauses 𝓤 H A mem run) known-count (to-count l lʷ h t w ν δ νʷ δʷ)
             (counted .low) (counted .tells)
-            (and-then ! (value ! 18 refl) (and-then ! (value ! 34 refl) (and-then ! (value ! 38 refl) (no-more !))))
+            (and-then ! (value ! 19 refl) (and-then ! (value ! 35 refl) (and-then ! (value ! 39 refl) (no-more !))))
             (λ n us good. heard ! (Counts h t w n (us .1 .1 .0)) (λ e.
             use1 W (‵ (flft (ν ∷ []) fullShare) ⊛ ‵ (flft (νʷ ∷ []) fullShare) ⊛ ‵ ftrue) (id⊢ 𝓤 _) $ split3 ! $
             move ! (3 ∷ []) $ fsplit ! $ drop ! $ fsplit ! $ drop ! $ fsplit ! $ fsplit ! $ move ! (1 ∷ []) $ feqL ! (λ work-long.
             move ! (3 ∷ 0 ∷ 5 ∷ []) $ array-back ! tt (numbers w64) lʷ w (us .1 .1 .0) $
             move ! (2 ∷ 4 ∷ []) $ array-shown ! tt entries l t $
-            keep ! (0 ∷ 1 ∷ 4 ∷ 5 ∷ 6 ∷ span 7 50) $
-            land ! (from ! (stop !)) (init ! 19 refl (counted .typed 𝓤 H A W n good)) $
+            keep ! (0 ∷ 1 ∷ 4 ∷ 5 ∷ 6 ∷ 7 ∷ span 8 50) $
+            land ! (from ! (stop !)) (init ! 20 refl (counted .typed 𝓤 H A W n good)) $
             opens r h n t (us .1 .1 .0) built-good head-good good t-long (work-long ∙ w-long) ok
             (then n (us .1 .1 .0) (work-long ∙ w-long) e))))))
 
@@ -376,15 +377,15 @@ module _ {M : Type 1} (𝓤 : URA M) (H : Heap 𝓤) (A : Atoms 𝓤) (W : Given
             → (58 ≤ length text) × (length text ≤ 65536)
             → ((h : Head) → h ≡ headOf r → (n : Counted) (w′ : List ℕ) → length w′ ≡ 16384 → Counts h t w n w′
             → (s : Page) (m : List ℕ) → length m ≡ length text → Opens (saysBuilt r) (saysCounted n) s m
-            → Ready h t s w′ m × ((e : Page) (m′ : List ℕ) → Rows h t s m e m′ → Lists input e m′))
+            → Ready h t s w′ m input × ((e : Page) (m′ : List ℕ) → Rows h t s m e m′ → Lists input e m′))
             → Sq W (Context t w text (full (built .low r) ∷ bare ∷ bare ∷ bare ∷ work-loan (table-loan [])))
             (runs (𝓣 .C) (𝓣 .Λ) env body.t-9 (atRet env Post))
         heads r t w good t-long w-long ok then =
             use0 W (raw (HeadOf .pre (to-head l lʷ r))) (goes-head l lʷ r good) $
             calls ! (fmOf 𝓤 H (W .laws) 𝓣) head-of.ended (head-of.clauses 𝓤 H A mem run) known-head (to-head l lʷ r) (head .low) (head .tells)
-            (and-then ! (value ! 16 refl) (no-more !))
+            (and-then ! (value ! 17 refl) (no-more !))
             (λ h us good′. heard ! (h ≡ headOf r) (λ e. drop ! $ drop ! $
-            land ! (from ! (stop !)) (init ! 17 refl (head .typed 𝓤 H A W h good′)) $
+            land ! (from ! (stop !)) (init ! 18 refl (head .typed 𝓤 H A W h good′)) $
             counts r h t w good good′ t-long w-long ok (then h e)))
 
       walk : (length input ≤ 16384) × (85 ≤ length text) × (length text ≤ 65536)
@@ -405,22 +406,24 @@ module _ {M : Type 1} (𝓤 : URA M) (H : Heap 𝓤) (A : Atoms 𝓤) (W : Given
           sets ! 24 refl (addr ! (from ! (stop !))) (tt, tt) $
           sets ! 26 refl (agg ! (and-then ! (value ! 24 refl) (and-then ! (big-lit (record { fits = lit< tt })) (no-more !)))) (slice-typed (lit< tt)) $
           move ! (52 ∷ 53 ∷ []) $ split3 ! $ move ! (3 ∷ []) $ fsplit ! $ move ! (1 ∷ []) $ fsplit ! $
-          -- [the text; true; the input; its token; the text's; true; the work; the table; the locals from 8 on]
+          -- [the text; true; the input; its token; the text's; true; the work; the table; the locals from 8 on]. The input is shown twice
+          move ! (2 ∷ []) $ use1 W (‵ Input ⊛ ‵ Input) (shr-slice-copy 𝓤 H A W (named 0) κⁱ u8 .twice (at-list u8 bⁱ oⁱ γⁱ input) (input-slice ∷ [])) $
+          split ! $ move ! (2 ∷ 3 ∷ 0 ∷ 4 ∷ 5 ∷ 6 ∷ 7 ∷ 8 ∷ []) $
           move ! (7 ∷ []) $ lends-array ! tt entries (l bs) (copies 2000 blankEntry) 2000 table-room (length-copies {X = Record} 2000 blankEntry) (λ ν δ.
           move ! (9 ∷ []) $ lends-array ! tt (numbers w64) (lʷ bs) (copies 16384 0) 16384 work-room (length-copies {X = ℕ} 16384 0) (λ νʷ δʷ.
           move ! (9 ∷ 0 ∷ 3 ∷ 8 ∷ 1 ∷ 4 ∷ []) $ group ! 6 $
           use1 W (raw (Build .pre (to-build (l bs) (lʷ bs) νʷ δʷ ν δ))) (goes-build (l bs) (lʷ bs) νʷ δʷ ν δ) $
           calls ! (fmOf 𝓤 H (W .laws) 𝓣) build.ended (build.clauses 𝓤 H A mem run) known-build (to-build (l bs) (lʷ bs) νʷ δʷ ν δ) (built .low) (built .tells)
-          (and-then ! (value ! 9 refl) (and-then ! (value ! 27 refl) (and-then ! (value ! 31 refl) (no-more !))))
+          (and-then ! (value ! 10 refl) (and-then ! (value ! 28 refl) (and-then ! (value ! 32 refl) (no-more !))))
           (λ r us good. heard ! (Builds input (copies 16384 0) (copies 2000 blankEntry) r (us .1 .0) (us .1 .1 .0)) (λ e.
           use1 W (‵ (flft κⁱ qⁱ) ⊛ ‵ (flft (νʷ ∷ []) fullShare) ⊛ ‵ (flft (ν ∷ []) fullShare) ⊛ ‵ ftrue) (id⊢ 𝓤 _) $ split3 ! $ move ! (2 ∷ []) $ split ! $
           move ! (4 ∷ []) $ fsplit ! $ drop ! $ fsplit ! $ fsplit ! $ move ! (1 ∷ []) $ feqL ! (λ work-long.
           move ! (1 ∷ []) $ fsplit ! $ fsplit ! $ move ! (1 ∷ []) $ feqL ! (λ table-long.
-          -- [the table's last list; true; the work's; the table's token; true; the input's; the work's; the work's loan; the table's; the text; true; its token; true; the locals from 13 on]
+          -- [the table's last list; true; the work's; the table's token; true; the input's; the work's; the work's loan; the table's; the text; true; its token; true; the input; the locals from 14 on]
           move ! (3 ∷ 0 ∷ 8 ∷ []) $ array-back ! tt entries (l bs) (copies 2000 blankEntry) (us .1 .1 .0) $
           move ! (5 ∷ 2 ∷ 6 ∷ []) $ array-back ! tt (numbers w64) (lʷ bs) (copies 16384 0) (us .1 .0) $
-          keep ! (1 ∷ 0 ∷ 5 ∷ 7 ∷ 4 ∷ span 9 50) $
-          land ! (from ! (stop !)) (init ! 15 refl (built .typed 𝓤 H A W r good)) $
+          keep ! (1 ∷ 0 ∷ 5 ∷ 7 ∷ 4 ∷ 9 ∷ span 10 50) $
+          land ! (from ! (stop !)) (init ! 16 refl (built .typed 𝓤 H A W r good)) $
           heads bs r (us .1 .1 .0) (us .1 .0) good (table-long ∙ length-copies {X = Record} 2000 blankEntry) (work-long ∙ length-copies {X = ℕ} 16384 0)
           (omega (arith, ok .1), ok .2)
           (λ h is n w′ long C s m text-long O. (

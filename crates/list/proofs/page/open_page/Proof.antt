@@ -25,8 +25,11 @@ enum-known-counted-2 c = search needs
 facts-requires : tie.Need-facts-requires
 facts-requires c κs = search needs
 
-cast-t17 : tie.Need-cast-t17
-cast-t17 c = search needs
+nothing-requires : tie.Need-nothing-requires
+nothing-requires c κs = search needs
+
+cast-t18 : tie.Need-cast-t18
+cast-t18 c = search needs
 
 same-length : tie.Need-same-length
 same-length c = search needs
@@ -49,11 +52,25 @@ same-length-3 c = search needs
 
 returns-3 : tie.Need-returns-3
 returns-3 c =
-    let start = c .before .before .before .before .before .before .before .before .before .before .before .before .args in
-    opens-rows (start .built) (start .counted) _ _ _ _ (c .before .before .before .before .before .before .before .before .before .built2 .given .1) (c .before .before .before .before .before .before .counted2 .given .1) (c .before .before .before .facts .ensures)
+    let start = c .before .before .before .before .before .before .before .before .before .before .before .before .before .args in
+    opens-rows (start .built) (start .counted) _ _ _ _ _ (c .before .before .before .before .before .before .before .before .before .before .built2 .given .1) (c .before .before .before .before .before .before .before .counted2 .given .1) (c .before .before .before .before .facts .ensures) (c .before .nothing .ensures)
 
 pub open-page-spec : {M : Type 1} → statement M
 open-page-spec =
     tie.close
-    (tie.spec enum-known-built refuse-requires enum-known-built-2 enum-known-counted refuse-requires-2 enum-known-counted-2 facts-requires
-    cast-t17 same-length returns same-length-2 returns-2 same-length-3 returns-3)
+    (tie.spec
+    enum-known-built
+    refuse-requires
+    enum-known-built-2
+    enum-known-counted
+    refuse-requires-2
+    enum-known-counted-2
+    facts-requires
+    nothing-requires
+    cast-t18
+    same-length
+    returns
+    same-length-2
+    returns-2
+    same-length-3
+    returns-3)

@@ -1,11 +1,11 @@
 -- `page::put_line` puts the line of a row behind what waits.
-use mathlib.Core.Path.{ap}
+use mathlib.Core.Path.{_∙_, ap, sym}
 use native.Mathlib.Omega.{arith}
 use borrow.Author.Needs.{needs}
 use lib.ListN.{length}
 use Rattle.list.specs.declared.page.Page.{Page}
-use Rattle.list.proofs.Opening.{lines-put, lines-refused, row-there}
-use Rattle.list.proofs.Waiting.{waits-room}
+use Rattle.list.proofs.Opening.{lines-failed, lines-put, lines-refused, row-there}
+use Rattle.list.proofs.Waiting.{room-made, waits-room}
 use Rattle.list.proofs.page.put_line.Statement.{statement}
 use Rattle.list.proofs.page.put_line.Tie as tie
 
@@ -18,12 +18,23 @@ enum-told-2 c = search needs
 make-room-requires : tie.Need-make-room-requires
 make-room-requires c κs = search needs
 
+has-failed-requires : tie.Need-has-failed-requires
+has-failed-requires c κs = search needs
+
 put-row-requires : tie.Need-put-row-requires
 put-row-requires c κs =
-    let start = c .before .before .before .before .before .before .before in
-    let a = start .args in (
-      row-there (a .t .places) (a .written) (a .row .now) (c .before .before .before .enum-told2 .given .1) (start .pre .there),
-      (omega (arith, waits-room (length (a .text .now)) (a .t) (start .pre .long) (start .pre .within), ap (λ (t : Page). t .bytes) (c .before .make-room .ensures)), start .pre .short),
+    let branch = c .before in
+    let start = branch .before .before .before .before .before .before .before .before .before .before .before .before in
+    let made = branch .before .before .before .before .before .make-room in
+    let a = start .args in
+    let fine = sym (branch .before .has-failed .ensures) ∙ branch .if1 .left in
+    let room = room-made (a .t) (a .text .now) _ _ (start .pre .waits .fine) (made .ensures) fine in
+    let same = made .kept .1 .1 .0 in (
+      row-there (a .t .places) (a .written) (a .row .now) (branch .before .before .before .before .before .before .before .enum-told2 .given .1) (start .pre .there),
+      (
+        omega (arith, waits-room (length (a .text .now)) (a .t) (start .pre .long) (start .pre .waits .within), ap (λ (t : Page). t .bytes) (room .page), same),
+        omega (arith, start .pre .short, same),
+      ),
     )
 
 add-next : tie.Need-add-next
@@ -31,7 +42,7 @@ add-next c = search needs
 
 returns : tie.Need-returns
 returns c =
-    let a = c .before .before .before .before .args in
+    let a = c .before .before .before .before .before .args in
     lines-refused (a .t) (a .written) _ (a .row .now) (a .text .now) _ (c .enum-told .given .1)
 
 same-length : tie.Need-same-length
@@ -39,8 +50,37 @@ same-length c = search needs
 
 returns-2 : tie.Need-returns-2
 returns-2 c =
-    let a = c .before .before .before .before .before .before .before .before .before .before .before .before .before .args in
-    lines-put (a .t) (a .written) (a .row .now) (a .text .now) _ _ _ (c .before .before .before .before .before .before .before .before .before .enum-told2 .given .1) (c .before .before .before .before .before .before .before .make-room .ensures) (c .before .before .before .before .before .put-row .ensures)
+    let branch = c in
+    let start = branch .before .before .before .before .before .before .before .before .before .before .before .before in
+    let made = branch .before .before .before .before .before .make-room in
+    let a = start .args in
+    let failed = sym (branch .before .has-failed .ensures) ∙ branch .if1 .taken in
+    lines-failed (a .t) (a .written) (branch .before .before .before .before .before .before .before .enum-told2 .given .1) (a .row .now) (a .text .now) _ _ (start .pre .waits .fine) (made .ensures) failed _
+
+same-length-2 : tie.Need-same-length-2
+same-length-2 c = search needs
+
+returns-3 : tie.Need-returns-3
+returns-3 c =
+    let branch = c .before .before .before .before .before .before .before in
+    let start = branch .before .before .before .before .before .before .before .before .before .before .before .before in
+    let made = branch .before .before .before .before .before .make-room in
+    let a = start .args in
+    let fine = sym (branch .before .has-failed .ensures) ∙ branch .if1 .left in
+    lines-put (a .t) (a .written) (branch .before .before .before .before .before .before .before .enum-told2 .given .1) (a .row .now) (a .text .now) _ _ (start .pre .waits .fine) (made .ensures) fine _ _ (c .before .before .before .before .before .put-row .ensures)
 
 pub put-line-spec : {M : Type 1} → statement M
-put-line-spec = tie.close (tie.spec enum-told enum-told-2 make-room-requires put-row-requires add-next returns same-length returns-2)
+put-line-spec =
+    tie.close
+    (tie.spec
+    enum-told
+    enum-told-2
+    make-room-requires
+    has-failed-requires
+    put-row-requires
+    add-next
+    returns
+    same-length
+    returns-2
+    same-length-2
+    returns-3)

@@ -19,19 +19,30 @@ cast-put-fact c = search needs
 put-fact-requires : tie.Need-put-fact-requires
 put-fact-requires c κs = search needs
 
+nothing-requires : tie.Need-nothing-requires
+nothing-requires c κs = search needs
+
 same-length : tie.Need-same-length
 same-length c = search needs
 
 returns : tie.Need-returns
 returns c =
-    let start = c .before .before .before .before .before .before .before in
-    let put = c .before .before .put-fact .ensures in
-    let said = c .before .before .before .number .ensures in record {
+    let put = c .before .before .before .put-fact .ensures in
+    let said = c .before .before .before .before .number .ensures in record {
       stands = put .stands ∙ ap (factText refusedWord) said;
-      bytes = omega (arith, put .ends, fact-short refusedWord (c .before .before .before .number .result));
-      untold = refl;
+      bytes = omega (arith, put .ends, fact-short refusedWord (c .before .before .before .before .number .result));
+      unhanded = c .nothing .ensures;
       stops = refl;
     }
 
 pub refuse-spec : {M : Type 1} → statement M
-refuse-spec = tie.close (tie.spec slice-aggregate-put-fact number-requires cast-put-fact put-fact-requires same-length returns)
+refuse-spec =
+    tie.close
+    (tie.spec
+    slice-aggregate-put-fact
+    number-requires
+    cast-put-fact
+    put-fact-requires
+    nothing-requires
+    same-length
+    returns)

@@ -1,0 +1,45 @@
+// What is handed to the system. `hand_on` is the one function of the program that writes.
+ghost use mathlib.Core.Path.{_≡_};
+ghost use Prim.Native.Nat.{_+_};
+ghost use lib.ListN.{length};
+ghost use Rattle.list.specs.Handing.{Due, nothingHanded};
+use libc::STDERR_FILENO;
+
+// How many bytes of the program's text were handed on, and whether a write failed. The fields are known in this file only: nothing
+// else can count a byte as handed on, or say that a write failed.
+pub(crate) struct Handed {
+    bytes: u64,
+    failed: bool,
+}
+
+pub(crate) fn nothing() -> Handed
+    ensures { λ r. ⌜ r ≡ nothingHanded ⌝ }
+{
+    Handed {
+        bytes: 0,
+        failed: false,
+    }
+}
+
+pub(crate) fn has_failed(handed: Handed) -> bool
+    ensures { λ r. ⌜ r ≡ handed .failed ⌝ }
+{
+    handed.failed
+}
+
+// Hands the next bytes of what the program tells of the input to standard output. The input is not read: the contract needs it, to say
+// whose text it is. The bytes are lent with `mut` and nothing is said of them afterwards, so that they are used up: no caller can hand
+// them on twice. A write that fails is told on standard error.
+pub(crate) fn hand_on(descriptor: i32, input: &[u8], handed: Handed, bytes: &mut [u8]) -> Handed
+    requires { ⌜ Due descriptor (now input) handed (now bytes) ⌝ }
+    ensures { λ r. ⌜ r .bytes ≡ handed .bytes + length (now (bytes .entry)) ⌝ }
+{
+    let written = io::write_all(descriptor, &*bytes);
+    if !written {
+        io::write_all(STDERR_FILENO, b"list: the text could not be written\n");
+    }
+    Handed {
+        bytes: handed.bytes + bytes.len() as u64,
+        failed: !written,
+    }
+}
