@@ -1,11 +1,13 @@
 -- Demand 3: different open places of a good set fixed one after another, each at a node, each into a table with as many entries as the
 -- set at hand has records, or as the first set has, and with the work asked for. Then any order of the same fixings; then a built set.
 use mathlib.Core.Bool.{true}
-use mathlib.Core.List.{List, [], _∷_}
+use mathlib.Core.List.{List, List·Memᴰ·cases-cons, List·Memᴰ·head, List·Memᴰ·not-nil, List·Memᴰ·tail, [], _∷_, map}
+use mathlib.Core.Logic.{_↔_, ⊎-elim}
 use mathlib.Core.Path.{_∙_, _≡_, ap, refl, sym}
 use Prim.Native.Nat.{_<_, _≤_, ℕ}
 use native.Mathlib.Omega.{arith}
 use lib.ListN.{length}
+use Rattle.paper.specs.Lists.{_∈_}
 use Rattle.paper.specs.Questions.{fixedSet, questionWork}
 use Rattle.paper.specs.Records.{listing}
 use Rattle.paper.specs.Refusals.{Reply, answer, isOpen, over}
@@ -17,7 +19,7 @@ use Rattle.laws.proofs.BuiltSets.{built-good, built-open}
 use Rattle.laws.proofs.FixGood.{fix-accepted, fix-good, fix-lists, fix-shrinks}
 use Rattle.laws.proofs.Lists.{here}
 use Rattle.laws.proofs.Narrowing.{narrowed-order, narrowed-picked}
-use Rattle.laws.proofs.OpenPlaces.{allowed-apart, allowed-rest, open-from-one}
+use Rattle.laws.proofs.OpenPlaces.{allowed-apart, allowed-rest, open-after, open-from-one}
 
 narrowed-none : (rows : List Row) → narrowed [] rows ≡ rows
 narrowed-none [] = refl
@@ -42,6 +44,7 @@ after-first l ls h table G ok room enough others = record {
       ∙ ap (narrowed (fixingsOf ls)) (fix-lists h table G (f .place) (f .node) is-open node (l .target))
       ∙ narrowed-picked f (fixingsOf ls) (listing h table) (open-from-one h (f .place) is-open) (allowed-apart h f (fixingsOf ls) ok);
   good = others .good;
+  fixed = record { nodes = others .fixed .nodes; arity = others .fixed .arity; opens = opens };
 }
   where
     f : Fixing
@@ -53,6 +56,16 @@ after-first l ls h table G ok room enough others = record {
     node : f .node < h .nodes
     node = ok .all-nodes f here
 
+    opens : (place : ℕ) → (isOpen (others .head) place ≡ true) ↔ ((isOpen h place ≡ true) × (place ∈ map (λ g. g .place) (fixingsOf (l ∷ ls)) → ⊥))
+    opens place =
+        let once = open-after h table (f .place) (f .node) place is-open in
+        let then = others .fixed .opens place in (
+          λ e. let (still, not-later) = then .0 e in
+              let (before, not-first) = once .0 still in
+              (before, λ m. ⊎-elim not-first not-later (List·Memᴰ·cases-cons m)),
+          λ (before, not-fixed). then .1 (once .1 (before, λ e. not-fixed (List·Memᴰ·head e)), λ m. not-fixed (List·Memᴰ·tail m)),
+        )
+
     first : callFix h table l ≡ answer (fixedSet h table (f .place) (f .node))
     first = fix-accepted h table G (f .place) (f .node) is-open node (l .work) (length (l .target)) enough room
 
@@ -60,7 +73,14 @@ after-first l ls h table G ok room enough others = record {
 fixings-from : (ls : List Lent) (entries : Entries) (first : Head) → Enough entries first → (h : Head) (table : List Record) → GoodSet h table
     → h .used ≤ first .used → Allowed h (fixingsOf ls) → Suffices entries ls h table → FixedAll ls h table
 fixings-from [] entries first room h table G few ok enough =
-    record { head = h; left = table; accepted = refl; lists = sym (narrowed-none (listing h table)); good = G }
+    record {
+      head = h;
+      left = table;
+      accepted = refl;
+      lists = sym (narrowed-none (listing h table));
+      good = G;
+      fixed = record { nodes = refl; arity = refl; opens = λ place. (λ e. (e, λ m. List·Memᴰ·not-nil m), λ w. w .0) };
+    }
 fixings-from (l ∷ ls) entries first room h table G few ok enough =
     let f = l .fixing in
     let is-open = ok .all-open f here in

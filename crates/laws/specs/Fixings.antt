@@ -107,6 +107,12 @@ pub record GoodSet (h : Head) (table : List Record) : Type 0 where
   pub sound : Sound h table
   pub once : (i : ℕ) → i < h .used → Once (getD (listings (h .arity) (usedOf h table)) i [])
 
+-- the head is of the same tree and arity, and its open places are the open ones that were not fixed
+pub record FixedFrom (h : Head) (fs : List Fixing) (head : Head) : Type 0 where
+  pub nodes : head .nodes ≡ h .nodes
+  pub arity : head .arity ≡ h .arity
+  pub opens : (place : ℕ) → (isOpen head place ≡ true) ↔ ((isOpen h place ≡ true) × (place ∈ map (λ f. f .place) fs → ⊥))
+
 -- every call is accepted, and the last set lists what the demand says, and is good again
 pub record FixedAll (ls : List Lent) (h : Head) (table : List Record) : Type 0 where
   pub head : Head
@@ -114,3 +120,4 @@ pub record FixedAll (ls : List Lent) (h : Head) (table : List Record) : Type 0 w
   pub accepted : callFixes ls h table ≡ answer (head, left)
   pub lists : listing head left ≡ narrowed (fixingsOf ls) (listing h table)
   pub good : GoodSet head left
+  pub fixed : FixedFrom h (fixingsOf ls) head
