@@ -3,3 +3,4 @@ pub mod Fixings
 pub mod Narrowed
 pub mod OneAnswer
 pub mod Refusals
+pub mod Witness
