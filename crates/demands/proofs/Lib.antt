@@ -1,3 +1,6 @@
 pub mod Answers
 pub mod Fixings
+pub mod Narrowed
 pub mod OneAnswer
+pub mod Refusals
+pub mod Witness

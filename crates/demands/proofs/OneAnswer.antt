@@ -1,7 +1,7 @@
 -- The contracts of the questions leave no freedom: two results that one allows for one input are equal, in the answer and in every lent
--- buffer, refusals too. (`one-build` stands in crate `build`, those of the readers in `stream`.)
+-- buffer, refusals too. First the pass that all of them begin with. (`one-build` stands in crate `build`, those of the readers in `stream`.)
 use mathlib.Core.List.{List}
-use mathlib.Core.Path.{_∙_, _≡_, sym}
+use mathlib.Core.Path.{_∙_, _≡_, ap, refl, sym}
 use Prim.Native.Nat.{ℕ}
 use Rattle.paper.specs.declared.Counted.{Counted}
 use Rattle.paper.specs.declared.Fixed.{Fixed}
@@ -10,15 +10,32 @@ use Rattle.paper.specs.declared.Member.{Member}
 use Rattle.paper.specs.declared.Projected.{Projected}
 use Rattle.paper.specs.declared.Record.{Record}
 use Rattle.paper.specs.declared.Written.{Written}
+use Rattle.paper.specs.Refusals.{Reply, answer, refused}
 use Rattle.paper.specs.Row.{Row}
-use Rattle.laws.proofs.Answers.{one-counted, one-fixed, one-member, one-projected, one-written}
+use Rattle.laws.proofs.Answers.{one-counted, one-fixed, one-member, one-projected, one-written, refusal-told, refusalOf, told-apart}
 use Rattle.fix.specs.Face.{Fixes}
 use Rattle.member.specs.Face.{Members}
 use Rattle.project.specs.Face.{Projects}
 use Rattle.row.specs.Face.{Numbers}
-use Rattle.sound.specs.Face.{Counts}
+use Rattle.sound.specs.Face.{Counts, Weighs}
+use Rattle.sound.specs.Weights.{saysWeighed}
+use Rattle.sound.specs.declared.Weighed.{Weighed}
+use Rattle.sound.specs.declared.Weighed.the-variants as WeighedIs
+
+-- `weigh`'s enum is told by what it says
+abbrev weighedOf : Reply (Unit {0}) → Weighed
+weighedOf (refused n) = WeighedIs.Refused (refusalOf n)
+weighedOf (answer a) = WeighedIs.Sound
+
+weighed-told : (r : Weighed) → weighedOf (saysWeighed r) ≡ r
+weighed-told WeighedIs.Sound = refl
+weighed-told (WeighedIs.Refused r) = ap WeighedIs.Refused (refusal-told r)
 
 module _ (h : Head) (table : List Record) (work work₁ work₂ : List ℕ) where
+  pub one-weighing : (r s : Weighed) → Weighs h table work r work₁ → Weighs h table work s work₂ → (r ≡ s) × (work₁ ≡ work₂)
+  one-weighing r s a b =
+      (told-apart saysWeighed weighedOf weighed-told r s (a .answer ∙ sym (b .answer)), a .worked ∙ sym (b .worked))
+
   pub one-count : (r s : Counted) → Counts h table work r work₁ → Counts h table work s work₂ → (r ≡ s) × (work₁ ≡ work₂)
   one-count r s a b = (one-counted r s (a .answer ∙ sym (b .answer)), a .worked ∙ sym (b .worked))
 

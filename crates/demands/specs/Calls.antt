@@ -12,7 +12,7 @@ use Rattle.paper.specs.Answers.{numberOf}
 use Rattle.paper.specs.Questions.{questionWork}
 use Rattle.paper.specs.Records.{listing}
 use Rattle.paper.specs.Refusals.{Reply, refused, answer}
-use Rattle.laws.specs.Fixings.{Fixing, narrowed}
+use Rattle.laws.specs.Fixings.{Entries, FixedFrom, Fixing, GoodSet, narrowed}
 use Rattle.fix.specs.Face.{Fixes}
 
 pub record Call : Type 0 where
@@ -33,23 +33,26 @@ abbrev pub following {ℓ} : {A : Type ℓ} → Fixed → (ℕ → A) → (Head 
 following (FixedIs.Refused r) stop go = stop (numberOf r)
 following (FixedIs.Set h) stop go = go h
 
--- each call is made on the set that the one before it answered and left in its target; its target has at least n entries, and its work
+-- each call is made on the set that the one before it answered and left in its target; its target has so many entries, and its work
 -- is what the paper asks for. Behind a refusal nothing is said
-abbrev pub Made : ℕ → List Call → Head → List Record → Type 0
-Made n [] h table = Unit {0}
-Made n (c ∷ cs) h table =
-    (n ≤ length (c .target)) × (questionWork h ≤ length (c .work))
+abbrev pub Made : Entries → List Call → Head → List Record → Type 0
+Made entries [] h table = Unit {0}
+Made entries (c ∷ cs) h table =
+    (entries h ≤ length (c .target)) × (questionWork h ≤ length (c .work))
     × Fixes h table (c .work) (c .fixing .place) (c .fixing .node) (c .target) (c .result) (c .work′) (c .target′)
-    × following (c .result) (λ number. Unit {0}) (λ head. Made n cs head (c .target′))
+    × following (c .result) (λ number. Unit {0}) (λ head. Made entries cs head (c .target′))
 
 -- the set behind the last call, or the number of the first that was refused
 abbrev pub lastSet : List Call → Head → List Record → Reply (Head × List Record)
 lastSet [] h table = answer (h, table)
 lastSet (c ∷ cs) h table = following (c .result) refused (λ head. lastSet cs head (c .target′))
 
--- every call is accepted, and the last set lists only the rows that have those nodes there, in the old order, the fixed places blank
+-- every call is accepted, and the last set lists only the rows that have those nodes there, in the old order, the fixed places blank.
+-- It is sound, no used record of it lists a row twice, and the other places are open as they were
 pub record Narrows (cs : List Call) (h : Head) (table : List Record) : Type 0 where
   pub head : Head
   pub left : List Record
   pub accepted : lastSet cs h table ≡ answer (head, left)
   pub lists : listing head left ≡ narrowed (fixingsIn cs) (listing h table)
+  pub good : GoodSet head left
+  pub fixed : FixedFrom h (fixingsIn cs) head

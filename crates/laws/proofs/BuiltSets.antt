@@ -1,40 +1,38 @@
 -- Demand 2, and that a built set is sound: from the bytes handed to a build to the table that it leaves.
 -- First what the tests of a build give, then the set that it makes, then the questions on it.
-use mathlib.Core.Bool.{Bool, _&&_, cond, false, true}
-use mathlib.Core.List.{List, List·Memᴰ·tail, [], _++_, _∷_}
-use mathlib.Core.Logic.{_↔_}
+use mathlib.Core.Bool.{_&&_, true}
+use mathlib.Core.List.{List, [], _++_, _∷_}
+use mathlib.Core.Logic.{Iff·trans, _↔_}
 use mathlib.Core.Path.{_∙_, _≡_, ap, refl, subst, subst₂, sym}
-use Prim.Native.Nat.{_*_, _+_, _-_, _<_, _^_, _≤_, suc, ℕ}
+use Prim.Native.Nat.{_*_, _+_, _-_, _<_, _^_, _≤_, ℕ}
 use native.Mathlib.Omega.{arith}
-use borrow.Author.Tests.{eq-eqb, le-leb, leb-true, lt-ltb}
-use lib.Dec.{eqb, leb, ltb}
+use borrow.Author.Tests.{le-leb, leb-true}
+use lib.Dec.{leb}
 use lib.ListN.{getD, length}
 use lib.Pow.{pow-pos}
 use Rattle.paper.specs.Building.{allPlaces}
 use Rattle.paper.specs.Lists.{Once, _∈_}
-use Rattle.paper.specs.Questions.{countOf, hasPlace, isListed, marksOf, questionWork, rowNumbered, standsAt}
+use Rattle.paper.specs.Questions.{marksOf}
 use Rattle.paper.specs.Records.{listing}
-use Rattle.paper.specs.Refusals.{Reply, Test, answer, askTests, buildTests, entriesFit, headFrom, isOpen, madeFrom, member, memberTests, nodesIn, over, projectTests, queryIn, queryPart, rowTests, tableAfter, treeIn, treePart, workFor}
+use Rattle.paper.specs.Refusals.{Reply, Test, buildTests, headFrom, isOpen, madeFrom, nodesIn, over, queryIn, queryPart, tableAfter, treeIn, treePart, workFor}
 use Rattle.paper.specs.Row.{Row}
-use Rattle.paper.specs.Sound.{sound}
 use Rattle.paper.specs.Stream.{StreamRecord, queryRecords, recordsOf, treeRecords}
-use Rattle.paper.specs.Tree.{size}
 use Rattle.laws.specs.Built.{BuiltSet, InAnswer, SaysTheAnswer, Stood}
 use Rattle.laws.specs.Fixings.{GoodSet}
 use Rattle.laws.specs.Numbered.{Numbered}
 use Rattle.laws.specs.Plain.{Head, Record}
 use Rattle.laws.specs.RowSets.{answerRows}
+use Rattle.laws.specs.Said.{SaysTheRows}
 use Rattle.laws.proofs.Answer.{answer-once, answer-right}
 use Rattle.laws.proofs.Bound.{records-bound}
 use Rattle.laws.proofs.GoodSets.{HeadOver, over-good, over-length, over-lists, used-over}
-use Rattle.laws.proofs.Listed.{all-places, in-listed, listed-in, map-upTo, row-stands, stands-row}
-use Rattle.laws.proofs.Lists.{both-true, here}
+use Rattle.laws.proofs.Listed.{all-places}
+use Rattle.laws.proofs.Lists.{both-true}
 use Rattle.laws.proofs.ReadQuery.{ReadQuery, query-read}
 use Rattle.laws.proofs.ReadTree.{tree-read}
 use Rattle.laws.proofs.Records.{records-once, records-right, records-sound}
-use Rattle.laws.proofs.Replies.{Passes, answered, answers, passes-append, passes-left, passes-right}
-use Rattle.laws.proofs.Runs.{size-numbered}
-use Rattle.laws.proofs.SoundTest.{is-sound}
+use Rattle.laws.proofs.Replies.{Passes, answered, passes-left, passes-right}
+use Rattle.laws.proofs.SoundAnswers.{sound-says}
 
 -- ---- the set that a build makes, where its tests pass
 module _ (input : List ℕ) (workLength tableLength : ℕ) (passes : Passes (buildTests input workLength tableLength)) where
@@ -125,6 +123,12 @@ module _ (input : List ℕ) (h : Head) (table : List Record) (B : BuiltSet input
   query : ReadQuery (queryIn input)
   query = read-query input (B .workLength) (length (B .lent)) passes
 
+  -- every place from 1 to the arity is open
+  pub built-open : (place : ℕ) → 1 ≤ place → place ≤ h .arity → isOpen h place ≡ true
+  built-open place from to =
+      let all : h .places ≡ allPlaces (h .arity) = subst (λ (x : Head). x .places ≡ allPlaces (x .arity)) (built-is .0) refl in
+      rw (le-leb 1 place from, le-leb place (h .arity) to, all) (all-places (h .arity) (place - 1) (omega arith))
+
   -- the records made are no more than the paper's bound
   pub built-bound : h .used ≤ 4 * 3 ^ h .arity * length (queryIn input .rules) * h .nodes + (length (queryIn input .accepting) - 1)
   built-bound =
@@ -142,51 +146,16 @@ module _ (input : List ℕ) (h : Head) (table : List Record) (B : BuiltSet input
       subst Once (sym built-lists)
       (answer-once (queryIn input) (treeIn input) (query .deterministic) (query .in-range) (nodesIn input) (tree .0) (tree .2))
 
-  -- the tests that every question makes first
-  asks : (workLength : ℕ) → questionWork h ≤ workLength → Passes (askTests h table workLength)
-  asks workLength work = (le-leb (questionWork h) workLength work, (is-sound h table (built-good .sound), tt))
-
-  asks-then : (workLength : ℕ) (more : List Test) → questionWork h ≤ workLength → Passes more → Passes (askTests h table workLength ++ more)
-  asks-then workLength more work p = passes-append (askTests h table workLength) more (asks workLength work) p
-
-  all-open : h .places ≡ allPlaces (h .arity)
-  all-open = subst (λ (x : Head). x .places ≡ allPlaces (x .arity)) (built-is .0) refl
-
-  -- an accepted row has a node at every place
-  entries-fit : (i : ℕ) (row : Row) → i + length row ≤ h .arity → ((x : ℕ) → x ∈ row → x < h .nodes) → entriesFit h i row ≡ true
-  entries-fit i [] few nodes = refl
-  entries-fit i (x ∷ xs) few nodes =
-      rw (ap (λ (b : ℕ). hasPlace b i) all-open ∙ all-places (h .arity) i (omega arith), lt-ltb x (h .nodes) (nodes x here))
-      (entries-fit (suc i) xs (omega arith) (λ y m. nodes y (List·Memᴰ·tail m)))
-
-  fits-row : (workLength : ℕ) (row : Row) → questionWork h ≤ workLength → InAnswer input row → Passes (memberTests h table workLength row)
-  fits-row workLength row work a =
-      let arity : length row ≡ h .arity = a .places ∙ ap (λ (x : Head). x .arity) (built-is .0) in
-      let nodes : size (treeIn input) ≡ h .nodes = omega (arith, size-numbered (tree .0), ap (λ (x : Head). x .nodes) (built-is .0)) in
-      asks-then workLength ((13, eqb (length row) (h .arity)) ∷ (8, entriesFit h 0 row) ∷ []) work
-      (eq-eqb (length row) (h .arity) arity, (entries-fit 0 row (omega arith) (λ x m. omega (arith, a .nodes x m)), tt))
-
-  member-right : (workLength : ℕ) → questionWork h ≤ workLength → (row : Row) → (member h table workLength row ≡ answer true) ↔ InAnswer input row
-  member-right workLength work row = (
-    λ e. rows-right row .0 (listed-in (listing h table) row (answered (memberTests h table workLength row) e .1)),
-    λ a. answers (memberTests h table workLength row) (isListed (listing h table) row) (fits-row workLength row work a)
-        ∙ ap answer (in-listed (listing h table) row (rows-right row .1 a)),
-  )
+  -- what they say of the listing, they say of the accepted rows
+  says : SaysTheRows h table (listing h table)
+  says = sound-says h table (built-good .sound)
 
   marks-right : (place n : ℕ) → n < h .nodes → (getD (marksOf h table place) n 0 ≡ 1) ↔ Stood input place n
-  marks-right place n below = (
-    λ e. let s = stands-row (listing h table) (place - 1) n (mark-true _ (sym (mark-at place n below) ∙ e)) in
-        record { row = s .0; accepted = rows-right (s .0) .0 (s .1); there = s .2 },
-    λ s. mark-at place n below
-        ∙ ap (λ (c : Bool). cond c 1 0) (row-stands (listing h table) (place - 1) n (s .row) (rows-right (s .row) .1 (s .accepted)) (s .there)),
-  )
-    where
-      mark-at : (place n : ℕ) → n < h .nodes → getD (marksOf h table place) n 0 ≡ cond (standsAt (place - 1) n (listing h table)) 1 0
-      mark-at place n below = map-upTo (λ m. cond (standsAt (place - 1) m (listing h table)) 1 0) (h .nodes) n below
-
-      mark-true : (c : Bool) → _≡_ {A = ℕ} (cond c 1 0) 1 → c ≡ true
-      mark-true true e = refl
-      mark-true false e = absurd (omega (arith, e))
+  marks-right place n below =
+      Iff·trans (says .marks place n below) (
+        λ (row, m, there). record { row = row; accepted = rows-right row .0 m; there = there },
+        λ s. (s .row, rows-right (s .row) .1 (s .accepted), s .there),
+      )
 
   -- exactly the accepted rows are listed, each once, and count, row by number, member and project say so
   pub built-right : SaysTheAnswer input h table
@@ -194,14 +163,9 @@ module _ (input : List ℕ) (h : Head) (table : List Record) (B : BuiltSet input
     lists = rows-right;
     once = rows-once;
     records-once = built-good .once;
-    counts = λ w work. answers (askTests h table w) (countOf h table) (asks w work);
-    numbers = λ w k out work below fits.
-        answers (rowTests h table w k out) (rowNumbered h table k)
-        (asks-then w ((9, ltb k (countOf h table)) ∷ (10, leb (h .arity) out) ∷ []) work
-        (lt-ltb k (countOf h table) below, (le-leb (h .arity) out fits, tt)));
-    members = member-right;
-    projects = λ w place out work is-open fits.
-        answers (projectTests h table w place out) (marksOf h table place)
-        (asks-then w ((7, isOpen h place) ∷ (10, leb (h .nodes) out) ∷ []) work (is-open, (le-leb (h .nodes) out fits, tt)));
+    counts = says .counts;
+    numbers = says .numbers;
+    members = λ w work row. Iff·trans (says .members w work row) (rows-right row);
+    projects = says .projects;
     marks = marks-right;
   }

@@ -16,6 +16,7 @@ use Rattle.laws.specs.Plain.{Head, Record, Set, at, empty, unit}
 use Rattle.laws.specs.QuestionRows.{SetFits, SoundAt}
 use Rattle.laws.proofs.Counting.{within-most-rows}
 use Rattle.laws.proofs.Shaped.{all-once, once-all, shaped-all}
+use Rattle.laws.proofs.Shapes.{shape-few}
 use Rattle.laws.proofs.SoundRecords.{SoundFrom, sound-from-all}
 use Rattle.laws.proofs.Stands.{OnceFrom, Stands}
 
@@ -51,7 +52,8 @@ module _ (h : Head) (table used : List Record) (rows : List Row) (F : HeadOver h
   few-listed i w =
       let below : i < length used = omega (arith, F .number) in
       within-most-rows (h .arity) (entry used i .flag) (getD (listings (h .arity) used) i []) (F .few-places)
-      (shaped-all (h .arity) (h .nodes) (F .few-nodes) used (F .sound) i below) (once-all (h .arity) used (F .once) i below)
+      (shape-few (h .nodes) (F .few-nodes) (h .arity) (entry used i .flag) (getD (listings (h .arity) used) i [])
+      (shaped-all (h .arity) (h .nodes) (F .few-nodes) used (F .sound) i below)) (once-all (h .arity) used (F .once) i below)
 
   -- it is sound, and no used record lists a row twice
   pub over-good : GoodSet h table

@@ -23,7 +23,7 @@ use Rattle.laws.proofs.Bits.{bit-one, bit-sum, without-apart, without-l
 use Rattle.laws.proofs.Listings.{getD-listings, getD-pushed}
 use Rattle.laws.proofs.Picks.{once-picked, picked-append, picked-left, picked-right}
 use Rattle.laws.proofs.Shaped.{Shaped, kind-product, kind-single, kind-union, last-or, leftRows, product-rows, rightRows, shape-new, shaped-push, single-rows, union-rows}
-use Rattle.laws.proofs.Shapes.{Shape, entry-blank, entry-node, set-single, single-at}
+use Rattle.laws.proofs.Shapes.{ShapeBelow, entry-blank, entry-node, set-single, single-at}
 use Rattle.laws.proofs.SoundRecords.{SoundFrom}
 use Rattle.laws.proofs.Stands.{Extends, Makes, OnceFrom, Stands, entry-new, entry-old, extends-refl, extends-trans, later, product-stands, single-stands, union-stands}
 
@@ -40,7 +40,7 @@ module _ (k N : ℕ) (few : N ≤ 4095) (p n : ℕ) (hp : p < k) where
       go false = refl
 
   -- the place is in one factor at most
-  wanted-products : (b c : ℕ) (xs ys : List Row) → bitAnd b c ≡ 0 → Shape k b xs → Shape k c ys
+  wanted-products : (b c : ℕ) (xs ys : List Row) → bitAnd b c ≡ 0 → ShapeBelow N k b xs → ShapeBelow N k c ys
       → wanted (b + c) (products xs ys) ≡ products (wanted b xs) (wanted c ys)
   wanted-products b c xs ys h hx hy =
       ap (λ (z : Bool). cond z (picked p n (products xs ys)) (products xs ys)) (bit-sum p b c h)
@@ -59,7 +59,7 @@ module _ (k N : ℕ) (few : N ≤ 4095) (p n : ℕ) (hp : p < k) where
           (λ y m. hy y m .0)
       go false f false g = refl
 
-  pub wanted-once : (b : ℕ) (rows : List Row) → Shape k b rows → Once rows → Once (wanted b rows)
+  pub wanted-once : (b : ℕ) (rows : List Row) → ShapeBelow N k b rows → Once rows → Once (wanted b rows)
   wanted-once b rows h o = go (hasPlace b p)
     where
       go : (c : Bool) → Once (cond c (picked p n rows) rows)

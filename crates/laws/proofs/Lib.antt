@@ -38,6 +38,7 @@ pub mod StreamRefusals
 pub mod QuestionRefusals
 pub mod FixGood
 pub mod Listed
+pub mod SoundAnswers
 pub mod BuiltSets
 pub mod Narrowing
 pub mod OpenPlaces

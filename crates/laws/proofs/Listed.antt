@@ -13,6 +13,7 @@ use Rattle.paper.specs.Building.{allPlaces}
 use Rattle.paper.specs.Lists.{_∈_, countFrom, same, upTo}
 use Rattle.paper.specs.Questions.{hasPlace, isListed, standsAt}
 use Rattle.paper.specs.Row.{Row, blank}
+use Rattle.laws.specs.Said.{StandsIn}
 use Rattle.laws.proofs.Lists.{has-true, or-cases, or-left, or-right, same-refl, same-true, true-has}
 use Rattle.laws.proofs.Rows.{half}
 
@@ -29,7 +30,7 @@ in-listed (x ∷ xs) row m =
     (List·Memᴰ·cases-cons m)
 
 -- ---- nodes of a listing
-pub stands-row : (rows : List Row) (i n : ℕ) → standsAt i n rows ≡ true → (row : Row) × (row ∈ rows) × (getD row i blank ≡ n)
+pub stands-row : (rows : List Row) (i n : ℕ) → standsAt i n rows ≡ true → StandsIn i n rows
 stands-row rows i n e = Memᴰ·of-map (λ (row : Row). getD row i blank) rows (has-true (map (λ (row : Row). getD row i blank) rows) n e)
 
 pub row-stands : (rows : List Row) (i n : ℕ) (row : Row) → row ∈ rows → getD row i blank ≡ n → standsAt i n rows ≡ true

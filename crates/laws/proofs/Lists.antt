@@ -85,6 +85,12 @@ module _ {A : Type 0} where
   pub here : {x : A} {xs : List A} → x ∈ x ∷ xs
   here = List·Memᴰ·head refl
 
+  -- so is the entry at each index of the list
+  pub in-at : (d : A) (xs : List A) (i : ℕ) → i < length xs → getD xs i d ∈ xs
+  in-at d [] i h = absurd (omega arith)
+  in-at d (x ∷ xs) zero h = here
+  in-at d (x ∷ xs) (suc i) h = List·Memᴰ·tail (in-at d xs i (omega arith))
+
   -- a member of a list that is there only if a test holds: the test holds
   pub mem-cond : (b : Bool) (xs : List A) {y : A} → y ∈ cond b xs [] → (b ≡ true) × (y ∈ xs)
   mem-cond true xs m = (refl, m)

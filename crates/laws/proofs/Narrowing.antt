@@ -1,9 +1,9 @@
 -- Narrowing a listing by fixings: picking one place first and narrowing by the others then is narrowing at once, and the order
 -- of the fixings does not matter. First blank places, then which rows stay, then listings.
 use mathlib.Core.Path.{_≡_, refl, sym, ap, ap₂, _∙_}
-use mathlib.Core.Logic.{⊎-elim}
-use mathlib.Core.Bool.{Bool, true, false, cond, _&&_}
-use mathlib.Core.List.{List, [], _∷_, List·Memᴰ·tail, List·Memᴰ·not-nil, List·Memᴰ·cases-cons}
+use mathlib.Core.Logic.{_↔_, ⊎-elim}
+use mathlib.Core.Bool.{Bool, true, false, true≢false, cond, _&&_}
+use mathlib.Core.List.{List, [], _∷_, List·Memᴰ·head, List·Memᴰ·tail, List·Memᴰ·not-nil, List·Memᴰ·cases-cons}
 use Prim.Native.Nat.{ℕ, zero, suc, _-_, _≤_}
 use native.Mathlib.Omega.{arith}
 use lib.Dec.{eqb}
@@ -11,7 +11,7 @@ use lib.ListN.{getD, set}
 use lib.Seq.{getD-set-other, set-set}
 use Rattle.paper.specs.Lists.{_∈_}
 use Rattle.paper.specs.Row.{Row, blank}
-use Rattle.laws.specs.Fixings.{picked, Fixing, hasNodes, blanked, narrowed, SameFixings}
+use Rattle.laws.specs.Fixings.{picked, Fixing, hasNodes, blanked, narrowed, LeftOf, SameFixings}
 use Rattle.laws.proofs.Lists.{both-true, here, iff-eq}
 
 -- ---- blank places
@@ -98,6 +98,27 @@ narrowed-picked f fs (row ∷ rows) p h = go (eqb (getD row (f .place - 1) blank
         ≡ cond (c && hasNodes fs row) (blanked fs (set row i blank) ∷ narrowed (f ∷ fs) rows) (narrowed (f ∷ fs) rows)
     go true e = rw (stays, e)
     go false e = e
+
+-- what stands in a narrowed listing is left of a row of the listing
+pub mem-narrowed : (fs : List Fixing) (rows : List Row) (row : Row) → (row ∈ narrowed fs rows) ↔ LeftOf (λ full. full ∈ rows) fs row
+mem-narrowed fs [] row = (λ m. absurd (List·Memᴰ·not-nil m), λ (full, m, has, is). absurd (List·Memᴰ·not-nil m))
+mem-narrowed fs (x ∷ rows) row = go (hasNodes fs x) refl (mem-narrowed fs rows row)
+  where
+    later : LeftOf (λ full. full ∈ rows) fs row → LeftOf (λ full. full ∈ x ∷ rows) fs row
+    later (full, n, has, is) = (full, List·Memᴰ·tail n, has, is)
+
+    go : (c : Bool) → hasNodes fs x ≡ c → (row ∈ narrowed fs rows) ↔ LeftOf (λ full. full ∈ rows) fs row
+        → (row ∈ cond c (blanked fs x ∷ narrowed fs rows) (narrowed fs rows)) ↔ LeftOf (λ full. full ∈ x ∷ rows) fs row
+    go true e others = (
+      λ m. ⊎-elim (λ is. (x, here, e, is)) (λ n. later (others .0 n)) (List·Memᴰ·cases-cons m),
+      λ (full, m, has, is).
+          ⊎-elim (λ q. List·Memᴰ·head (is ∙ ap (blanked fs) q)) (λ n. List·Memᴰ·tail (others .1 (full, n, has, is))) (List·Memᴰ·cases-cons m),
+    )
+    go false e others = (
+      λ m. later (others .0 m),
+      λ (full, m, has, is).
+          ⊎-elim (λ q. absurd (true≢false (sym has ∙ ap (hasNodes fs) q ∙ e))) (λ n. others .1 (full, n, has, is)) (List·Memᴰ·cases-cons m),
+    )
 
 -- the same fixings in any order leave the same rows in the same order
 pub narrowed-order : (fs gs : List Fixing) (rows : List Row) → SameFixings fs gs → narrowed fs rows ≡ narrowed gs rows

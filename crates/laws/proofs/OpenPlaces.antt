@@ -1,7 +1,8 @@
 -- Flags without a place, and the places that stay open after a fix: without a place the others stay as they are, two places
 -- can be taken in either order, and after an accepted fixing the others of an allowed list are still allowed.
 use mathlib.Core.Path.{_≡_, refl, sym, ap, _∙_}
-use mathlib.Core.Bool.{Bool, true, false, _&&_}
+use mathlib.Core.Bool.{Bool, true, false, true≢false, _&&_}
+use mathlib.Core.Logic.{_↔_}
 use mathlib.Core.List.{List, _∷_, List·Memᴰ·tail, Memᴰ·cast, Memᴰ·map}
 use Prim.Native.Nat.{ℕ, zero, suc, _+_, _*_, _/_, _%_, _-_, _≤_}
 use native.Mathlib.Omega.{arith}
@@ -53,13 +54,28 @@ without-comm b (suc i) (suc j) =
 pub open-from-one : (h : Head) (place : ℕ) → isOpen h place ≡ true → 1 ≤ place
 open-from-one h place e = leb-true 1 place (both-true (leb 1 place) (leb place (h .arity) && hasPlace (h .places) (place - 1)) e .0)
 
--- a fix leaves the other open places open
-open-after : (h : Head) (table : List Record) (place n other : ℕ) → isOpen h place ≡ true → (other ≡ place → ⊥)
-    → isOpen h other ≡ true → isOpen ((fixedSet h table place n) .0) other ≡ true
-open-after h table place n other p d e =
-    let a = open-from-one h place p in
-    let b = open-from-one h other e in
-    ap (λ (z : Bool). leb 1 other && (leb other (h .arity) && z)) (without-other (h .places) (place - 1) (other - 1) (λ q. d (omega arith))) ∙ e
+-- after a fix the other open places are open, and they alone
+module _ (h : Head) (table : List Record) (place n other : ℕ) (is-open : isOpen h place ≡ true) where
+  abbrev new : Head
+  new = (fixedSet h table place n) .0
+
+  -- another place is open as it was
+  as-before : 1 ≤ other → (other ≡ place → ⊥) → isOpen new other ≡ isOpen h other
+  as-before from apart =
+      let first = open-from-one h place is-open in
+      ap (λ (z : Bool). leb 1 other && (leb other (h .arity) && z)) (without-other (h .places) (place - 1) (other - 1) (λ q. apart (omega arith)))
+
+  -- and the fixed one is not
+  fixed-closed : isOpen new other ≡ true → other ≡ place → ⊥
+  fixed-closed e q =
+      let has = both-true (leb other (h .arity)) (hasPlace (new .places) (other - 1)) (both-true (leb 1 other) _ e .1) .1 in
+      true≢false (sym has ∙ ap (λ (i : ℕ). hasPlace (without (h .places) (place - 1)) (i - 1)) q ∙ without-same-place (h .places) (place - 1))
+
+  pub open-after : (isOpen new other ≡ true) ↔ ((isOpen h other ≡ true) × (other ≡ place → ⊥))
+  open-after = (
+    λ e. let apart = fixed-closed e in (sym (as-before (open-from-one new other e) apart) ∙ e, apart),
+    λ (e, apart). as-before (open-from-one h other e) apart ∙ e,
+  )
 
 -- the places of an allowed list are at least 1, and the first is none of the others
 pub allowed-apart : (h : Head) (f : Fixing) (fs : List Fixing) → Allowed h (f ∷ fs)
@@ -75,6 +91,6 @@ pub allowed-rest : (h : Head) (f : Fixing) (fs : List Fixing) (table : List Reco
 allowed-rest h f fs table a = record {
   different = a .different .1;
   all-open = λ g m.
-      open-after h table (f .place) (f .node) (g .place) (a .all-open f here) (allowed-apart h f fs a g m .1) (a .all-open g (List·Memᴰ·tail m));
+      open-after h table (f .place) (f .node) (g .place) (a .all-open f here) .1 (a .all-open g (List·Memᴰ·tail m), allowed-apart h f fs a g m .1);
   all-nodes = λ g m. a .all-nodes g (List·Memᴰ·tail m);
 }

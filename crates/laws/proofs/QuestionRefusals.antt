@@ -72,7 +72,7 @@ entries-from : (h : Head) (i : ℕ) (row : Row) → Fails (entriesFit h i row) (
 entries-from h i [] = (λ e. absurd (true≢false e), λ w. absurd (nowhere blank (Wrong h) i w))
 entries-from h i (x ∷ xs) = Iff·trans (fails-and (entry-row h i x) (entries-from h (suc i) xs)) (somewhere-first blank (Wrong h) i x xs)
 
-entries-row : (h : Head) (row : Row) → Fails (entriesFit h 0 row) (WrongEntry h row)
+pub entries-row : (h : Head) (row : Row) → Fails (entriesFit h 0 row) (WrongEntry h row)
 entries-row h row =
     Iff·trans (entries-from h 0 row) (
       λ (j, l, w). record { index = j; in-row = l; wrong = rw (zero-add j) at w },

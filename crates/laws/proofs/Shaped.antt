@@ -15,7 +15,7 @@ use Rattle.laws.specs.Plain.{Record}
 use Rattle.laws.specs.QuestionRows.{IsProduct, IsSingle, IsUnion, SoundAt}
 use Rattle.laws.proofs.Listings.{getD-listings, getD-pushed}
 use Rattle.laws.proofs.Lists.{which}
-use Rattle.laws.proofs.Shapes.{Shape, shape-product, shape-single}
+use Rattle.laws.proofs.Shapes.{ShapeBelow, shape-product, shape-single}
 use Rattle.laws.proofs.SoundRecords.{SoundFrom}
 use Rattle.laws.proofs.Stands.{OnceFrom, entry-new, entry-old}
 
@@ -73,11 +73,11 @@ module _ (P : Record → List Row → Type 0) (k : ℕ) where
 -- ---- shapes
 module _ (k N : ℕ) (few : N ≤ 4095) where
   abbrev pub Shaped : List Record → Type 0
-  Shaped = EachRecord (λ r rows. Shape k (r .flag) rows) k
+  Shaped = EachRecord (λ r rows. ShapeBelow N k (r .flag) rows) k
 
   -- the rows of a new record
   pub shape-new : (table : List Record) (r : Record) → SoundAt k N table (length table) r → Shaped table
-      → Shape k (r .flag) (recordRows k (listings k table) r)
+      → ShapeBelow N k (r .flag) (recordRows k (listings k table) r)
   shape-new table r h s = ⊎-elim single-case (⊎-elim union-case product-case) (h .kind)
     where
       L : List Row
@@ -86,27 +86,27 @@ module _ (k N : ℕ) (few : N ≤ 4095) where
       T : List Row
       T = getD (listings k table) (r .right) []
 
-      single-case : IsSingle r → Shape k (r .flag) (recordRows k (listings k table) r)
+      single-case : IsSingle r → ShapeBelow N k (r .flag) (recordRows k (listings k table) r)
       single-case e =
-          subst (Shape k (r .flag)) (sym (single-rows k (listings k table) r (e .0)))
+          subst (ShapeBelow N k (r .flag)) (sym (single-rows k (listings k table) r (e .0)))
           (shape-single k N few (r .node) (r .flag) (h .node) (h .flag-below))
 
-      union-case : IsUnion table (length table) r → Shape k (r .flag) (recordRows k (listings k table) r)
+      union-case : IsUnion table (length table) r → ShapeBelow N k (r .flag) (recordRows k (listings k table) r)
       union-case e =
-          subst (Shape k (r .flag)) (sym (union-rows k (listings k table) r (e .0)))
+          subst (ShapeBelow N k (r .flag)) (sym (union-rows k (listings k table) r (e .0)))
           (λ row m. ⊎-elim
           (λ w. let z = s (r .left) (e .1) row w in (z .0, z .1 ∙ e .3, z .2))
           (λ w. let z = s (r .right) (e .2) row w in (z .0, z .1 ∙ e .4, z .2))
           (List·Memᴰ·append-cases L m))
 
-      product-case : IsProduct table (length table) r → Shape k (r .flag) (recordRows k (listings k table) r)
+      product-case : IsProduct table (length table) r → ShapeBelow N k (r .flag) (recordRows k (listings k table) r)
       product-case e =
-          subst (Shape k (r .flag)) (sym (product-rows k (listings k table) r (e .0)))
-          (subst (λ (b : ℕ). Shape k b (products L T)) (e .4)
-          (shape-product k (entry table (r .left) .flag) (entry table (r .right) .flag) L T (e .3) (s (r .left) (e .1)) (s (r .right) (e .2))))
+          subst (ShapeBelow N k (r .flag)) (sym (product-rows k (listings k table) r (e .0)))
+          (subst (λ (b : ℕ). ShapeBelow N k b (products L T)) (e .4)
+          (shape-product N k (entry table (r .left) .flag) (entry table (r .right) .flag) L T (e .3) (s (r .left) (e .1)) (s (r .right) (e .2))))
 
   pub shaped-push : (table : List Record) (r : Record) → SoundAt k N table (length table) r → Shaped table → Shaped (table ++ (r ∷ []))
-  shaped-push table r h s = each-push (λ q rows. Shape k (q .flag) rows) k table r s (shape-new table r h s)
+  shaped-push table r h s = each-push (λ q rows. ShapeBelow N k (q .flag) rows) k table r s (shape-new table r h s)
 
   shaped-from : (rest before : List Record) → SoundFrom k N before rest → Shaped before → Shaped (before ++ rest)
   shaped-from [] before f s = subst Shaped (sym (append-nil before)) s

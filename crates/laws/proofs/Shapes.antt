@@ -191,12 +191,21 @@ merge-inj b c x x′ y y′ apart fx fx′ fy fy′ l lx lx′ e =
         elsewhere h = entry-blank k c i y (sym lx) fy w h ∙ sym (entry-blank k c i y′ (sym (l ∙ lx′)) fy′ w h)
 
 -- ---- lists of rows that fill the same places
--- every row of the list has this length, these places filled, and nodes there
+-- every row of the list has this length, these places filled, and nodes of a tree with N nodes there
+abbrev pub ShapeBelow : ℕ → ℕ → ℕ → List Row → Type 0
+ShapeBelow N k b rows = (row : Row) → row ∈ rows → (length row ≡ k) × (placesOf row ≡ b) × ((x : ℕ) → x ∈ row → notBlank x ≡ true → x < N)
+
+-- the same with the nodes of the largest tree
 abbrev pub Shape : ℕ → ℕ → List Row → Type 0
-Shape k b rows = (row : Row) → row ∈ rows → (length row ≡ k) × (placesOf row ≡ b) × ((x : ℕ) → x ∈ row → notBlank x ≡ true → x < 4095)
+Shape = ShapeBelow 4095
+
+pub shape-few : (N : ℕ) → N ≤ 4095 → (k b : ℕ) (rows : List Row) → ShapeBelow N k b rows → Shape k b rows
+shape-few N few k b rows s row m =
+    let (long, fills, nodes) = s row m in
+    (long, fills, λ x w f. omega (arith, few, nodes x w f))
 
 -- the list of a single has its flag's places
-pub shape-single : (k N : ℕ) → N ≤ 4095 → (n b : ℕ) → n < N → b < 2 ^ k → Shape k b (singleRow k n b ∷ [])
+pub shape-single : (k N : ℕ) → N ≤ 4095 → (n b : ℕ) → n < N → b < 2 ^ k → ShapeBelow N k b (singleRow k n b ∷ [])
 shape-single k N few n b node small row m =
     let not-blank : n ≡ blank → ⊥ = λ e. omega arith in
     rw (only m) (
@@ -206,8 +215,9 @@ shape-single k N few n b node small row m =
     )
 
 -- the list of a product has the places of both factors, which share none
-pub shape-product : (k b c : ℕ) (xs ys : List Row) → bitAnd b c ≡ 0 → Shape k b xs → Shape k c ys → Shape k (b + c) (products xs ys)
-shape-product k b c xs ys apart hx hy row m =
+pub shape-product : (N k b c : ℕ) (xs ys : List Row) → bitAnd b c ≡ 0 → ShapeBelow N k b xs → ShapeBelow N k c ys
+    → ShapeBelow N k (b + c) (products xs ys)
+shape-product N k b c xs ys apart hx hy row m =
     let (x, y, mx, my, e) = mem-products xs ys m in
     let (lx, fx, nx) = hx x mx in
     let (ly, fy, ny) = hy y my in

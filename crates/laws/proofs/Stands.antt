@@ -20,7 +20,7 @@ use Rattle.laws.specs.Plain.{Record, Set, at, empty, unit}
 use Rattle.laws.specs.QuestionRows.{SoundAt}
 use Rattle.laws.proofs.Listings.{getD-listings, getD-pushed}
 use Rattle.laws.proofs.Lists.{each-none, here, once-one}
-use Rattle.laws.proofs.Shapes.{Shape, merge-inj, shape-product, shape-single}
+use Rattle.laws.proofs.Shapes.{Shape, merge-inj, shape-few, shape-product, shape-single}
 use Rattle.laws.proofs.SoundRecords.{SoundFrom}
 use Rattle.laws.proofs.Splits.{once-products}
 
@@ -53,7 +53,7 @@ times-unit k [] h = refl
 times-unit k (x ∷ xs) h = cc (rw (h x here) at (blank-merge x), times-unit k xs (λ row m. h row (List·Memᴰ·tail m)))
 
 -- a single without a place is unit
-single-zero : (k n : ℕ) → singleRow k n 0 ≡ replicate k blank
+pub single-zero : (k n : ℕ) → singleRow k n 0 ≡ replicate k blank
 single-zero zero n = refl
 single-zero (suc k) n = rw (single-zero k n)
 
@@ -203,7 +203,7 @@ module _ (k N : ℕ) (few : N ≤ 4095) where
       rows = singleRow k n b ∷ []
 
       shape : Shape k b rows
-      shape = shape-single k N few n b node small
+      shape = shape-few N few k b rows (shape-single k N few n b node small)
 
       go : (c : Bool) → eqb b 0 ≡ c → Makes k N b s (cond c (s, unit) (newRecord (singleOf n b) s)) rows
       go true e =
@@ -220,7 +220,7 @@ module _ (k N : ℕ) (few : N ≤ 4095) where
   product-stands n b c s x y u v node apart p q = go x y p q
     where
       shape : Shape k (b + c) (products u v)
-      shape = shape-product k b c u v apart (p .shape) (q .shape)
+      shape = shape-product 4095 k b c u v apart (p .shape) (q .shape)
 
       once : Once (products u v)
       once = once-times k b c u v apart (p .shape) (q .shape) (p .once) (q .once)

@@ -4,18 +4,18 @@ use mathlib.Core.Bool.{Bool, _&&_, true}
 use mathlib.Core.List.{List, List·Memᴰ·cases-cons, List·Memᴰ·not-nil, [], _++_, _∷_}
 use mathlib.Core.Logic.{⊎-elim}
 use mathlib.Core.Path.{_≡_, ap, refl, subst, sym}
-use Prim.Native.Nat.{_<_, ℕ}
+use Prim.Native.Nat.{_<_, _≤_, ℕ}
 use native.Mathlib.Omega.{arith}
 use lib.ListN.{replicate}
 use Rattle.paper.specs.Lists.{_∈_}
 use Rattle.paper.specs.Records.{blankEntry}
-use Rattle.paper.specs.Refusals.{Reply, Test, answer, build, buildTests, headFrom, isOpen, madeFrom, over, tableAfter}
+use Rattle.paper.specs.Refusals.{Reply, Test, answer, build, buildTests, headFrom, madeFrom, over, tableAfter}
 use Rattle.laws.specs.Built.{BuiltSet, InAnswer}
-use Rattle.laws.specs.Fixings.{Allowed, FixedAll, Fixing, Lent}
+use Rattle.laws.specs.Fixings.{DifferentPlaces, FixedAll, Fixing, Lent, asUsed}
 use Rattle.paper.specs.Cases.{queryQ, treeB}
 use Rattle.laws.specs.Plain.{Head, Record}
 use Rattle.laws.proofs.BuiltSets.{built-right}
-use Rattle.laws.proofs.FixingsRight.{built-fixings}
+use Rattle.laws.proofs.FixingsRight.{built-fixings, used-enough}
 use Rattle.laws.proofs.Lists.{both-true, here, only}
 use Rattle.laws.proofs.Replies.{Passes, answers}
 use Rattle.laws.proofs.TestedRows.{different}
@@ -68,20 +68,23 @@ second = record { place = 2; node = 3 }
 abbrev calls : Fixing → Lent
 calls f = record { fixing = f; work = 13; target = replicate 13 blankEntry }
 
-two-allowed : (f g : Fixing) → (g .place ≡ f .place → ⊥) → isOpen (headFrom input) (f .place) ≡ true → isOpen (headFrom input) (g .place) ≡ true
-    → f .node < 5 → g .node < 5 → Allowed (headFrom input) (f ∷ g ∷ [])
-two-allowed f g apart open-f open-g node-f node-g = record {
+-- a place from 1 to 2, and a node below 5
+abbrev InTree : Fixing → Type 0
+InTree f = ((1 ≤ f .place) × (f .place ≤ 2)) × (f .node < 5)
+
+two-different : (f g : Fixing) → (g .place ≡ f .place → ⊥) → InTree f → InTree g → DifferentPlaces (headFrom input) (f ∷ g ∷ [])
+two-different f g apart in-f in-g = record {
   different = (λ m. apart (sym (only m)), (λ m. List·Memᴰ·not-nil m, tt));
-  all-open = λ x m. of-two (λ z. isOpen (headFrom input) (z .place) ≡ true) open-f open-g x m;
-  all-nodes = λ x m. of-two (λ z. z .node < 5) node-f node-g x m;
+  places = λ x m. of-two x m .0;
+  nodes = λ x m. of-two x m .1;
 }
   where
-    of-two : (P : Fixing → Type 0) → P f → P g → (x : Fixing) → x ∈ f ∷ g ∷ [] → P x
-    of-two P pf pg x m =
-        ⊎-elim (λ e. subst P (sym e) pf) (λ n. subst P (sym (only n)) pg) (List·Memᴰ·cases-cons m)
+    of-two : (x : Fixing) → x ∈ f ∷ g ∷ [] → InTree x
+    of-two x m = ⊎-elim (λ e. subst InTree (sym e) in-f) (λ n. subst InTree (sym (only n)) in-g) (List·Memᴰ·cases-cons m)
 
 pub fixed-B : FixedAll (calls first ∷ calls second ∷ []) (headFrom input) (over (madeFrom input) lent)
 fixed-B =
-    built-fixings input (headFrom input) (over (madeFrom input) lent) built-B (calls first ∷ calls second ∷ [])
-    (two-allowed first second (λ e. let z : _≡_ {A = ℕ} 2 1 = e in omega arith) refl refl (omega arith) (omega arith))
+    built-fixings input (headFrom input) (over (madeFrom input) lent) built-B asUsed (calls first ∷ calls second ∷ []) (used-enough (headFrom input))
+    (two-different first second (λ e. let z : _≡_ {A = ℕ} 2 1 = e in omega arith) ((omega arith, omega arith), omega arith)
+    ((omega arith, omega arith), omega arith))
     (omega arith, omega arith, (omega arith, omega arith, tt))

@@ -39,9 +39,19 @@ abbrev pub narrowed : List Fixing → List Row → List Row
 narrowed fs [] = []
 narrowed fs (row ∷ rows) = cond (hasNodes fs row) (blanked fs row ∷ narrowed fs rows) (narrowed fs rows)
 
+-- the row is what is left of one of those rows: it had those nodes there, and the fixed places are blank now
+abbrev pub LeftOf : (Row → Type 0) → List Fixing → Row → Type 0
+LeftOf Stood fs row = (full : Row) × Stood full × (hasNodes fs full ≡ true) × (row ≡ blanked fs full)
+
 -- the same fixings, in any order
 abbrev pub SameFixings : List Fixing → List Fixing → Type 0
 SameFixings fs gs = (f : Fixing) → (f ∈ fs) ↔ (f ∈ gs)
+
+-- different places from 1 to the arity, each with a node of the tree
+pub record DifferentPlaces (h : Head) (fs : List Fixing) : Type 0 where
+  pub different : Once (map (λ f. f .place) fs)
+  pub places : (f : Fixing) → f ∈ fs → (1 ≤ f .place) × (f .place ≤ h .arity)
+  pub nodes : (f : Fixing) → f ∈ fs → f .node < h .nodes
 
 -- each at an open place and a node of the tree, all places different
 pub record Allowed (h : Head) (fs : List Fixing) : Type 0 where
@@ -71,17 +81,37 @@ abbrev pub callFixes : List Lent → Head → List Record → Reply (Head × Lis
 callFixes [] h table = answer (h, table)
 callFixes (l ∷ ls) h table = next (callFix h table l) (l .target) (callFixes ls)
 
--- targets with at least n entries, and at each call the work that the paper asks for
-abbrev pub Suffices : ℕ → List Lent → Head → List Record → Type 0
-Suffices n [] h table = Unit {0}
-Suffices n (l ∷ ls) h table =
-    (n ≤ length (l .target)) × (questionWork h ≤ l .work)
-    × Suffices n ls ((fixedSet h table (l .fixing .place) (l .fixing .node)) .0) (over ((fixedSet h table (l .fixing .place) (l .fixing .node)) .1) (l .target))
+-- how many entries a target is to have, for the set at hand: as many as it has records, or as many as the first set has
+abbrev pub Entries : Type 0
+Entries = Head → ℕ
+
+abbrev pub asUsed : Entries
+asUsed set = set .used
+
+abbrev pub asUsedFirst : Head → Entries
+asUsedFirst first set = first .used
+
+-- so many are enough for every set that has no more records than the first
+abbrev pub Enough : Entries → Head → Type 0
+Enough entries first = (set : Head) → set .used ≤ first .used → set .used ≤ entries set
+
+-- at each call a target with so many entries, and the work that the paper asks for
+abbrev pub Suffices : Entries → List Lent → Head → List Record → Type 0
+Suffices entries [] h table = Unit {0}
+Suffices entries (l ∷ ls) h table =
+    (entries h ≤ length (l .target)) × (questionWork h ≤ l .work)
+    × Suffices entries ls ((fixedSet h table (l .fixing .place) (l .fixing .node)) .0) (over ((fixedSet h table (l .fixing .place) (l .fixing .node)) .1) (l .target))
 
 -- a sound set, none of whose used records lists a row twice
 pub record GoodSet (h : Head) (table : List Record) : Type 0 where
   pub sound : Sound h table
   pub once : (i : ℕ) → i < h .used → Once (getD (listings (h .arity) (usedOf h table)) i [])
+
+-- the head is of the same tree and arity, and its open places are the open ones that were not fixed
+pub record FixedFrom (h : Head) (fs : List Fixing) (head : Head) : Type 0 where
+  pub nodes : head .nodes ≡ h .nodes
+  pub arity : head .arity ≡ h .arity
+  pub opens : (place : ℕ) → (isOpen head place ≡ true) ↔ ((isOpen h place ≡ true) × (place ∈ map (λ f. f .place) fs → ⊥))
 
 -- every call is accepted, and the last set lists what the demand says, and is good again
 pub record FixedAll (ls : List Lent) (h : Head) (table : List Record) : Type 0 where
@@ -90,3 +120,4 @@ pub record FixedAll (ls : List Lent) (h : Head) (table : List Record) : Type 0 w
   pub accepted : callFixes ls h table ≡ answer (head, left)
   pub lists : listing head left ≡ narrowed (fixingsOf ls) (listing h table)
   pub good : GoodSet head left
+  pub fixed : FixedFrom h (fixingsOf ls) head

@@ -4,5 +4,6 @@ pub mod RowSets
 pub mod First
 pub mod StreamRows
 pub mod QuestionRows
+pub mod Said
 pub mod Fixings
 pub mod Built

@@ -15,7 +15,8 @@ use Rattle.paper.specs.Row.{Row, blank, products}
 use Rattle.paper.specs.Sound.{entry}
 use Rattle.laws.specs.QuestionRows.{IsProduct, IsSingle, IsUnion, SoundAt}
 use Rattle.laws.proofs.Listings.{listings-at, listings-first}
-use Rattle.laws.proofs.Shaped.{Shaped, kind-product, kind-single, kind-union, product-rows, shaped-all, single-rows, union-rows}
+use Rattle.laws.proofs.Shaped.{kind-product, kind-single, kind-union, product-rows, shaped-all, single-rows, union-rows}
+use Rattle.laws.proofs.Shapes.{Shape, shape-few}
 use Rattle.laws.proofs.SoundRecords.{sound-from-all}
 use Rattle.member.specs.Pass.{cell, lists}
 use Rattle.member.specs.Rows.{padded, stands}
@@ -39,8 +40,8 @@ module _ (k N : ℕ) (few : N ≤ 4095) (table : List Record) (sounds : (i : ℕ
   abbrev listed : ℕ → Bool
   listed = listedAt k table row
 
-  shaped : Shaped k N few table
-  shaped = shaped-all k N few table (sound-from-all k N table .1 sounds)
+  shaped : (i : ℕ) → i < length table → Shape k (entry table i .flag) (rowsAt i)
+  shaped i there = shape-few N few k (entry table i .flag) (rowsAt i) (shaped-all k N few table (sound-from-all k N table .1 sounds) i there)
 
   module _ (i : ℕ) (there : i < length table) where
     abbrev r : Record

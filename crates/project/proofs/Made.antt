@@ -11,8 +11,9 @@ use Rattle.paper.specs.Questions.{hasPlace}
 use Rattle.paper.specs.Row.{blank}
 use Rattle.paper.specs.Sound.{entry}
 use Rattle.laws.specs.QuestionRows.{IsProduct, IsSingle, IsUnion, Sound}
+use Rattle.laws.specs.Said.{StandsIn}
 use Rattle.project.proofs.Operands.{product-lists, rows, shaped, single-lists, some-row, union-lists, used}
-use Rattle.project.proofs.Standing.{StandsIn, in-factor, in-product, stands-append, stands-single}
+use Rattle.project.proofs.Standing.{in-factor, in-product, stands-append, stands-single}
 
 module _ (h : Head) (table : List Record) (S : Sound h table) (i : ℕ) (inside : i < h .arity) where
   -- some row of record k has node n at the index

@@ -15,7 +15,7 @@ use Rattle.laws.specs.QuestionRows.{IsProduct, IsSingle, IsUnion, Sound}
 use Rattle.laws.proofs.Listings.{listings-at, listings-first}
 use Rattle.laws.proofs.Lists.{here}
 use Rattle.laws.proofs.Shaped.{product-rows, shaped-all, single-rows, union-rows}
-use Rattle.laws.proofs.Shapes.{Shape}
+use Rattle.laws.proofs.Shapes.{Shape, shape-few}
 use Rattle.laws.proofs.SoundRecords.{sound-from-all}
 use Rattle.sound.proofs.Cells.{lists-some, used-length}
 
@@ -33,8 +33,9 @@ module _ (h : Head) (table : List Record) where
 
     pub shaped : (k : ℕ) → k < h .used → Shape (h .arity) (entry used k .flag) (rows k)
     shaped k below =
-        shaped-all (h .arity) (h .nodes) (S .few-nodes) used
-        (sound-from-all (h .arity) (h .nodes) used .1 (λ j w. S .records j (omega (arith, number)))) k (omega (arith, number))
+        shape-few (h .nodes) (S .few-nodes) (h .arity) (entry used k .flag) (rows k)
+        (shaped-all (h .arity) (h .nodes) (S .few-nodes) used
+        (sound-from-all (h .arity) (h .nodes) used .1 (λ j w. S .records j (omega (arith, number)))) k (omega (arith, number)))
 
     -- ---- by kind
     module _ (k : ℕ) (below : k < h .used) where

@@ -19,6 +19,7 @@ use Rattle.paper.specs.Questions.{hasPlace, marksOf, standsAt}
 use Rattle.paper.specs.Records.{listing, listings, setRows, usedOf}
 use Rattle.paper.specs.Refusals.{isOpen}
 use Rattle.laws.specs.QuestionRows.{SetFits, Sound}
+use Rattle.laws.specs.Said.{StandsIn}
 use Rattle.laws.proofs.Listed.{row-stands, stands-row}
 use Rattle.laws.proofs.Bits.{no-places}
 use Rattle.laws.proofs.Lists.{both-true, iff-eq, or-cases, or-left, or-right, which}
@@ -29,7 +30,6 @@ use Rattle.project.proofs.Clearing.{cleared, cleared-behind, cleared-le
 use Rattle.project.proofs.Operands.{rows}
 use Rattle.sound.proofs.Overwriting.{zeros-agree}
 use Rattle.project.proofs.Passing.{Cells, Down, Found, above, below, passes}
-use Rattle.project.proofs.Standing.{StandsIn}
 
 -- ---- the numbers of a list, by index
 has-index : (xs : List ℕ) (x : ℕ) → has xs x ≡ true → (k : ℕ) × (k < length xs) × (getD xs k 0 ≡ x)

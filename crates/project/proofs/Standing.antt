@@ -11,14 +11,11 @@ use lib.ListN.{getD, length}
 use Rattle.paper.specs.Lists.{_∈_}
 use Rattle.paper.specs.Questions.{hasPlace}
 use Rattle.paper.specs.Row.{Row, blank, merge, products, singleRow}
+use Rattle.laws.specs.Said.{StandsIn}
 use Rattle.laws.proofs.Bits.{bit-one}
 use Rattle.laws.proofs.Lists.{here, only, which}
 use Rattle.laws.proofs.Shapes.{Shape, entry-blank, merge-at-left, merge-at-right, single-at}
 use Rattle.laws.proofs.Splits.{in-products, mem-products}
-
--- some row of the list has the node at the index
-abbrev pub StandsIn : ℕ → ℕ → List Row → Type 0
-StandsIn i n rows = (row : Row) × (row ∈ rows) × (getD row i blank ≡ n)
 
 module _ (i n : ℕ) where
   -- ---- two lists, one after the other

@@ -1,5 +1,5 @@
 -- Rows by their numbers: that a row with a number is listed, the rows of two lists one after the other, and those of a product.
-use mathlib.Core.List.{List, List·Memᴰ·head, List·Memᴰ·tail, [], _++_, _∷_, map}
+use mathlib.Core.List.{List, [], _++_, _∷_, map}
 use mathlib.Core.Path.{_∙_, _≡_, ap, refl, sym}
 use Prim.Native.Nat.{_%_, _*_, _+_, _-_, _/_, _<_, _≤_, suc, zero, ℕ}
 use native.Mathlib.Nat.{div-add-mod', div-lt-iff-lt-mul, mod-lt, mul-zero, suc-mul}
@@ -8,11 +8,10 @@ use lib.ListN.{List·getD-append, getD, length, length-map}
 use lib.Seq.{getD-append-add}
 use Rattle.paper.specs.Lists.{_∈_}
 use Rattle.paper.specs.Row.{Row, merge, products}
+use Rattle.laws.proofs.Lists.{in-at}
 
 pub row-listed : (rows : List Row) (n : ℕ) → n < length rows → getD rows n [] ∈ rows
-row-listed [] n h = absurd (omega arith)
-row-listed (x ∷ xs) zero h = List·Memᴰ·head refl
-row-listed (x ∷ xs) (suc n) h = List·Memᴰ·tail (row-listed xs n (omega arith))
+row-listed rows n h = in-at [] rows n h
 
 -- ---- a union's
 pub left-row : (xs ys : List Row) (n : ℕ) → n < length xs → getD (xs ++ ys) n [] ≡ getD xs n []
