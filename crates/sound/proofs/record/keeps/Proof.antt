@@ -43,17 +43,27 @@ filled-requires-3 c κs = search needs
 
 returns-2 : tie.Need-returns-2
 returns-2 c =
-    let s = c .before .before .before in
-    let a = s .before .before .args in
-    let left : eqb (ones (a .left)) (ones (a .flag)) ≡ true = simp (sym (c .before .before .filled2 .ensures), sym (s .filled .ensures), eq-eqb _ _ (c .before .if2 .taken)) in
-    simp (sym (both-kept (a .left) (a .right) (a .flag) (s .before .if1 .left)), left, c .filled3 .ensures, s .filled .ensures)
+    let l = c .before .before in
+    let f = l .before in
+    let a = f .before .before .args in
+    simp (
+      sym (both-kept (a .left) (a .right) (a .flag) (f .before .if1 .left)),
+      sym (f .filled .ensures),
+      sym (l .filled2 .ensures),
+      sym (c .filled3 .ensures),
+      eq-eqb _ _ (c .before .if2 .taken),
+    )
 
 returns-3 : tie.Need-returns-3
 returns-3 c =
-    let s = c .before .before in
-    let a = s .before .before .args in
-    let left : eqb (ones (a .left)) (ones (a .flag)) ≡ false = simp (sym (c .before .filled2 .ensures), sym (s .filled .ensures), ne-eqb _ _ (c .if2 .left)) in
-    simp (sym (both-kept (a .left) (a .right) (a .flag) (s .before .if1 .left)), left, ne-eqb _ _ (c .if2 .left))
+    let f = c .before .before in
+    let a = f .before .before .args in
+    simp (
+      sym (both-kept (a .left) (a .right) (a .flag) (f .before .if1 .left)),
+      sym (f .filled .ensures),
+      sym (c .before .filled2 .ensures),
+      ne-eqb _ _ (c .if2 .left),
+    )
 
 pub keeps-spec : {M : Type 1} → statement M
 keeps-spec = tie.close (tie.spec returns filled-requires filled-requires-2 filled-requires-3 returns-2 returns-3)
