@@ -54,11 +54,22 @@ fn rows_of(head: &Head, table: &[Record], counts: &[u64], number: usize) -> Opti
     }
     let flags = (table[left].flag, table[right].flag);
     let rows = match kind {
-        UNION if flags == (flag, flag) => counts[left] + counts[right],
-        PRODUCT if flags.0 & flags.1 == 0 && flags.0 | flags.1 == flag => counts[left].checked_mul(counts[right])?,
+        UNION if keeps(flags, flag) => counts[left] + counts[right],
+        PRODUCT if adds(flags, flag) => counts[left].checked_mul(counts[right])?,
         _ => return None,
     };
     Some(rows).filter(|&rows| rows <= MOST_ROWS)
+}
+
+/// A product's places, the ones of its flag, are those of its operands together, and as many as both have.
+fn adds((left, right): (u16, u16), flag: u16) -> bool {
+    left | right == flag && left.count_ones() + right.count_ones() == flag.count_ones()
+}
+
+/// A union's are those of its operands together, and as many as each has.
+fn keeps((left, right): (u16, u16), flag: u16) -> bool {
+    let places = flag.count_ones();
+    left | right == flag && left.count_ones() == places && right.count_ones() == places
 }
 
 fn count_of(head: &Head, work: &[u64]) -> u64 {

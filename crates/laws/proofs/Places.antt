@@ -1,12 +1,13 @@
--- How many places a flag has. First flags that share no place, whose places add, as a product's do; then the flag of a row, which
--- has a place for each entry that passes the test.
+-- How many places a flag has. First two flags: where they share no place, and only there, their places add, as a product's do; where
+-- one fills as many as both together it is both, as in a union. Then the flag of a row, which has a place for each entry that passes
+-- the test, and the places of a record.
 use mathlib.Core.Bool.{Bool, cond, false, true}
 use mathlib.Core.List.{List, [], _∷_}
 use mathlib.Core.Path.{_∙_, _≡_, ap, refl, sym}
-use Prim.Native.Nat.{_%_, _*_, _+_, _/_, _<_, ℕ}
+use Prim.Native.Nat.{_%_, _*_, _+_, _/_, _<_, _≤_, max, min, ℕ}
 use native.Mathlib.Omega.{arith}
 use lib.Arith.{bin-ind}
-use lib.Bits.{and-step, bitAnd}
+use lib.Bits.{and-step, bitAnd, bitOr, or-disjoint, or-step}
 use lib.Count.{ones, ones-step}
 use lib.ListN.{getD, length}
 use lib.Seq.{length-take-le}
@@ -24,31 +25,49 @@ ones-none : ones noPlace ≡ 0
 unfolding ones
 ones-none = refl
 
--- ---- flags that share no place
-halves-apart : (a b : ℕ) → bitAnd a b ≡ 0 → bitAnd (a / 2) (b / 2) ≡ 0
-halves-apart a b h = omega (arith, and-step a b)
+-- ---- two flags
+-- the lowest digits of two flags, and then the halves
+or-digit : (a b : ℕ) → ones (bitOr a b) ≡ max (a % 2) (b % 2) + ones (bitOr (a / 2) (b / 2))
+or-digit a b =
+    let half : bitOr a b / 2 ≡ bitOr (a / 2) (b / 2) = omega (arith, or-step a b) in
+    omega (arith, or-step a b, ones-step (bitOr a b), ap ones half)
 
--- no carry: the halves add
-halves-add : (a b : ℕ) → bitAnd a b ≡ 0 → (a + b) / 2 ≡ a / 2 + b / 2
-halves-add a b h = omega (arith, and-step a b)
+and-digit : (a b : ℕ) → ones (bitAnd a b) ≡ min (a % 2) (b % 2) + ones (bitAnd (a / 2) (b / 2))
+and-digit a b =
+    let half : bitAnd a b / 2 ≡ bitAnd (a / 2) (b / 2) = omega (arith, and-step a b) in
+    omega (arith, and-step a b, ones-step (bitAnd a b), ap ones half)
 
-lows-add : (a b : ℕ) → bitAnd a b ≡ 0 → (a + b) % 2 ≡ a % 2 + b % 2
-lows-add a b h = omega (arith, and-step a b)
+-- the places of either, and those of both once more, are the places of each
+ones-share : (a b : ℕ) → ones (bitOr a b) + ones (bitAnd a b) ≡ ones a + ones b
+ones-share =
+    bin-ind (λ (a : ℕ). (b : ℕ) → ones (bitOr a b) + ones (bitAnd a b) ≡ ones a + ones b) (λ b. omega (arith, ones-none))
+    (λ a ih b. omega (arith, or-digit a b, and-digit a b, ones-step a, ones-step b, ih (b / 2)))
 
--- the places of a and of any flag that shares none with it add
-abbrev Adds : ℕ → Type 0
-Adds a = (b : ℕ) → bitAnd a b ≡ 0 → ones (a + b) ≡ ones a + ones b
-
-adds-none : Adds noPlace
-adds-none b h = omega (arith, ap ones (let z : 0 + b ≡ b = omega arith in z), ones-none)
-
-adds-digit : (a : ℕ) → Adds (a / 2) → Adds a
-adds-digit a ih b h =
-    omega (arith, ones-step (a + b), ones-step a, ones-step b, lows-add a b h, ap ones (halves-add a b h), ih (b / 2) (halves-apart a b h))
+-- a flag that fills no place has none
+ones-zero : (a : ℕ) → ones a ≡ 0 → a ≡ 0
+ones-zero = bin-ind (λ (a : ℕ). ones a ≡ 0 → a ≡ 0) (λ e. refl) (λ a ih e. omega (arith, ones-step a, ih (omega (arith, ones-step a))))
 
 -- a product's places add
 pub ones-add : (a b : ℕ) → bitAnd a b ≡ 0 → ones (a + b) ≡ ones a + ones b
-ones-add a b h = bin-ind Adds adds-none adds-digit a b h
+ones-add a b h = omega (arith, ap ones (or-disjoint a b h), ap ones h, ones-none, ones-share a b)
+
+-- and where they add, the flags share none
+pub ones-apart : (a b : ℕ) → ones a + ones b ≡ ones (bitOr a b) → bitAnd a b ≡ 0
+ones-apart a b h = ones-zero (bitAnd a b) (omega (arith, ones-share a b))
+
+-- two flags together fill no fewer places than one of them
+ones-grow : (a b : ℕ) → ones a ≤ ones (bitOr a b)
+ones-grow =
+    bin-ind (λ (a : ℕ). (b : ℕ) → ones a ≤ ones (bitOr a b)) (λ b. omega (arith, ones-none))
+    (λ a ih b. omega (arith, or-digit a b, ones-step a, ih (b / 2)))
+
+-- and where they fill as many, they are that one: a union's places keep
+pub ones-keep : (a b : ℕ) → ones a ≡ ones (bitOr a b) → a ≡ bitOr a b
+ones-keep =
+    bin-ind (λ (a : ℕ). (b : ℕ) → ones a ≡ ones (bitOr a b) → a ≡ bitOr a b) (λ b h. sym (ones-zero b (sym h ∙ ones-none)))
+    (λ a ih b h.
+    let halves : ones (a / 2) ≡ ones (bitOr (a / 2) (b / 2)) = omega (arith, or-digit a b, ones-step a, ones-grow (a / 2) (b / 2)) in
+    omega (arith, or-step a b, or-digit a b, ones-step a, halves, ih (b / 2) halves))
 
 -- ---- rows
 -- the number of entries that pass the test

@@ -15,12 +15,27 @@ use places::filled;
 // The most rows that a record may list.
 const MOST_ROWS: u64 = 281474976710656;
 
-// Whether two flags share no bit and together make the third: no place is filled by both, so the third fills as many as they do.
-fn together(a: u64, b: u64, flag: u64) -> bool
-    requires { ⌜ (a < 16) × (b < 16) ⌝ }
-    ensures { λ c. ⌜ c ≡ apart a b && eqb (a + b) flag ⌝ }
+// The number of places a record fills is the number of ones in its flag: a product adds, a union keeps. Document 01 asks for these counts
+// by name ('The shape of some places'), so they stand though flags are compared faster without them (docs/DECISIONS.md, 49). They are
+// the test: where the operands' flags together make the record's flag, it is by the counts that a product's share no place and that
+// each of a union's has them all.
+
+// Whether the flags of a product's operands share no bit and together make its flag: their places add to its own.
+fn adds(left: u64, right: u64, flag: u64) -> bool
+    ensures { λ c. ⌜ c ≡ apart left right && eqb (left + right) flag ⌝ }
 {
-    a + b == flag && filled(a & b) == 0
+    left | right == flag && filled(left) + filled(right) == filled(flag)
+}
+
+// Whether a union's operands have its flag: together they make it, and each keeps the number of its places.
+fn keeps(left: u64, right: u64, flag: u64) -> bool
+    ensures { λ c. ⌜ c ≡ eqb left flag && eqb right flag ⌝ }
+{
+    if left | right != flag {
+        return false;
+    }
+    let places = filled(flag);
+    filled(left) == places && filled(right) == places
 }
 
 // The weight of a single.
@@ -42,10 +57,7 @@ fn union_weight(flag: u64, left: u64, right: u64) -> u64
     requires { ⌜ (0 < rowsIn left) × (rowsIn left ≤ mostRows) × (rowsIn right ≤ mostRows) ⌝ }
     ensures { λ n. ⌜ n ≡ weightFor flag (unionRows flag left right) ⌝ }
 {
-    if left % 16 != flag {
-        return 0;
-    }
-    if right % 16 != flag {
+    if !keeps(left % 16, right % 16, flag) {
         return 0;
     }
     let weight = left + (right - flag);
@@ -75,7 +87,7 @@ fn product_weight(flag: u64, left: u64, right: u64) -> u64
     requires { ⌜ 0 < rowsIn right ⌝ }
     ensures { λ n. ⌜ n ≡ weightFor flag (productRows flag left right) ⌝ }
 {
-    if !together(left % 16, right % 16, flag) {
+    if !adds(left % 16, right % 16, flag) {
         return 0;
     }
     let rows = few_product(left / 16, right / 16);

@@ -26,7 +26,7 @@ module _ (c : tie.After-few-product) where
   right-flag = flagIn (start .args .right)
 
   flags : apart left-flag right-flag && eqb (left-flag + right-flag) (start .args .flag) ≡ true
-  flags = sym (c .before .before .together .ensures) ∙ not-false _ (c .before .if1 .left)
+  flags = sym (c .before .before .adds .ensures) ∙ not-false _ (c .before .if1 .left)
 
   sum : left-flag + right-flag ≡ start .args .flag
   sum = eqb-true _ _ (both-true (apart left-flag right-flag) _ flags .1)
@@ -34,11 +34,11 @@ module _ (c : tie.After-few-product) where
   few : c .few-product .result ≤ mostRows
   few = rw (c .few-product .ensures) (few-if (rowsIn (start .args .left) * rowsIn (start .args .right)))
 
-together-requires : tie.Need-together-requires
-together-requires c κs = search needs
+adds-requires : tie.Need-adds-requires
+adds-requires c κs = search needs
 
 returns : tie.Need-returns
-returns c = simp (sym (c .before .together .ensures) ∙ not-true _ (c .if1 .taken))
+returns c = simp (sym (c .before .adds .ensures) ∙ not-true _ (c .if1 .taken))
 
 few-product-requires : tie.Need-few-product-requires
 few-product-requires c κs = search needs
@@ -59,7 +59,7 @@ pub product-weight-spec : {M : Type 1} → statement M
 product-weight-spec =
     tie.close
     (tie.spec
-    together-requires
+    adds-requires
     returns
     few-product-requires
     mul-result

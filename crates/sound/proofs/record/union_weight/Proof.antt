@@ -1,45 +1,58 @@
 -- `record::union_weight` meets its contract: each `return` by the tests that led there. Both weights have the flag, so the rows in what is
 -- made of them are the rows of both.
-use Prim.Native.Nat.{_+_}
+use mathlib.Core.Bool.{_&&_, true}
+use mathlib.Core.Path.{_∙_, _≡_, sym}
+use Prim.Native.Nat.{_+_, _-_, ℕ}
 use native.Mathlib.Omega.{arith}
-use borrow.Author.Tests.{eq-eqb, le-leb, lt-leb, ne-eqb}
+use borrow.Author.Needs.{needs}
+use borrow.Author.Tests.{eqb-true, le-leb, lt-leb, ne-eqb, not-false, not-true}
+use lib.Dec.{eqb}
 use Rattle.paper.specs.Sound.{mostRows}
-use Rattle.sound.specs.Steps.{rowsIn}
+use Rattle.laws.proofs.Lists.{both-true}
+use Rattle.sound.specs.Steps.{flagIn, rowsIn}
 use Rattle.sound.proofs.record.union_weight.Statement.{statement}
 use Rattle.sound.proofs.record.union_weight.Tie as tie
 
-returns : tie.Need-returns
-returns c = simp (ne-eqb _ _ (c .if1 .taken))
+-- what is known once the flags are tested
+module _ (c : tie.Else1) where
+  abbrev start : tie.Start
+  start = c .before .before
 
-returns-2 : tie.Need-returns-2
-returns-2 c = simp (eq-eqb _ _ (c .before .if1 .left), ne-eqb _ _ (c .if2 .taken))
+  flags : eqb (flagIn (start .args .left)) (start .args .flag) && eqb (flagIn (start .args .right)) (start .args .flag) ≡ true
+  flags = sym (c .before .keeps .ensures) ∙ not-false _ (c .if1 .left)
+
+  left-flag : flagIn (start .args .left) ≡ start .args .flag
+  left-flag = eqb-true _ _ (both-true (eqb (flagIn (start .args .left)) (start .args .flag)) _ flags .0)
+
+  right-flag : flagIn (start .args .right) ≡ start .args .flag
+  right-flag = eqb-true _ _ (both-true (eqb (flagIn (start .args .left)) (start .args .flag)) _ flags .1)
+
+  abbrev rows : ℕ
+  rows = rowsIn (start .args .left) + rowsIn (start .args .right)
+
+  all-rows : rowsIn (start .args .left + (start .args .right - start .args .flag)) ≡ rows
+  all-rows = omega (arith, left-flag, right-flag)
+
+keeps-requires : tie.Need-keeps-requires
+keeps-requires c κs = search needs
+
+returns : tie.Need-returns
+returns c = simp (sym (c .before .keeps .ensures) ∙ not-true _ (c .if1 .taken))
 
 sub-weight : tie.Need-sub-weight
-sub-weight c = omega arith
+sub-weight c = omega (arith, right-flag c)
 
 add-weight : tie.Need-add-weight
-add-weight c = omega arith
+add-weight c = omega (arith, right-flag c)
+
+returns-2 : tie.Need-returns-2
+returns-2 c =
+    let s = c .before in
+    simp (flags s, le-leb (rows s) mostRows (omega (arith, c .if2 .taken, all-rows s)), ne-eqb (rows s) 0 (λ none. omega arith))
+    (omega (arith, left-flag s, right-flag s))
 
 returns-3 : tie.Need-returns-3
-returns-3 c =
-    let a = c .before .before .before .args in
-    let rows = rowsIn (a .left) + rowsIn (a .right) in
-    simp (
-      eq-eqb _ _ (c .before .before .if1 .left),
-      eq-eqb _ _ (c .before .if2 .left),
-      le-leb rows mostRows (omega (arith, c .if3 .taken)),
-      ne-eqb rows 0 (λ none. omega arith),
-    ) (omega arith)
-
-returns-4 : tie.Need-returns-4
-returns-4 c =
-    let a = c .before .before .before .args in
-    let rows = rowsIn (a .left) + rowsIn (a .right) in
-    simp (
-      eq-eqb _ _ (c .before .before .if1 .left),
-      eq-eqb _ _ (c .before .if2 .left),
-      lt-leb rows mostRows (omega (arith, c .if3 .left)),
-    )
+returns-3 c = let s = c .before in simp (flags s, lt-leb (rows s) mostRows (omega (arith, c .if2 .left, all-rows s)))
 
 pub union-weight-spec : {M : Type 1} → statement M
-union-weight-spec = tie.close (tie.spec returns returns-2 sub-weight add-weight returns-3 returns-4)
+union-weight-spec = tie.close (tie.spec keeps-requires returns sub-weight add-weight returns-2 returns-3)
