@@ -12,6 +12,37 @@ give_up() {
     exit 1
 }
 
+# The checks of a script are counted.
+passed=0 failed=0
+
+# same LABEL FILE FILE: what is, and what must be
+same() {
+    if difference=$(diff -a "$2" "$3"); then
+        passed=$((passed + 1))
+    else
+        failed=$((failed + 1))
+        printf '%s: what is (<), and what must be (>)\n%s\n' "$1" "$difference"
+        return 1
+    fi
+}
+
+# prints LABEL STATUS FILE COMMAND ..: the command prints what stands in FILE and ends with STATUS. What it says on standard error
+# is left in $out/said.
+prints() {
+    local label=$1 status=$2 file=$3
+    shift 3
+    "$@" >"$out/printed" 2>"$out/said"
+    echo "exit status $?" >>"$out/printed"
+    { cat "$file" && echo "exit status $status"; } >"$out/must_be_printed"
+    same "$label" "$out/printed" "$out/must_be_printed" || cat "$out/said"
+}
+
+end_checks() {
+    echo "$passed passed, $failed failed"
+    [ "$failed" -eq 0 ]
+    exit
+}
+
 case $(uname -m) in
 aarch64 | arm64)
     compiler=x86_64-linux-gnu-gcc fortran=x86_64-linux-gnu-gfortran compiler_words=(-static)
