@@ -37,6 +37,7 @@ show Fortran "${runner[@]}" "$out/show_fortran"
 if [ "${#runner[@]}" -gt 0 ]; then
     echo "Rust is left out: the archive is x86-64 code, and this host has no x86-64 standard library of Rust"
 else
+    need_rust
     need_cargo
     TARN_ARCHIVE=$(readlink -f "$archive") cargo build -q --release --locked --offline --manifest-path examples/rust/Cargo.toml \
         --target-dir "$out/cargo" || give_up "the Rust example does not compile or link"

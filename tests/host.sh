@@ -72,8 +72,8 @@ need_compiler() { need "$compiler" "${compiler_packages[@]}"; }
 need_fortran() { need "$fortran" "${fortran_packages[@]}"; }
 # rustc links with the host's own compiler
 need_rust() { need cc gcc libc6-dev && need rustc rustc; }
-need_cargo() { need_rust && need cargo cargo; }
-# x86-64 programs run under it on their own kind of host alone; it reads the C library's symbols
+# on an Arm host the Rust example is left out, and valgrind, which reads the C library's symbols, runs no x86-64 program
+need_cargo() { [ "${#runner[@]}" -gt 0 ] || need cargo cargo; }
 need_valgrind() { [ "${#runner[@]}" -gt 0 ] || need valgrind valgrind libc6-dbg; }
 
 # rust_library NAME [FILE] and rust_program NAME FILE [WORDS ..]: a library is made from tests/NAME/lib.rs, or from FILE
