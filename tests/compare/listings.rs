@@ -77,7 +77,7 @@ fn damaged(kind: &'static str, random: &mut Random, damage: fn(&mut Random, &Str
 /// So many leaves that the records fill the table, or nearly, or are a few too many.
 fn many_rows(random: &mut Random) -> Stream {
     let (arity, labels) = (random.between(1, 4), labels_of_q());
-    let leaves = random.between(1, [700, 160, 55, 18][arity - 1]);
+    let leaves = random.between(1, [1_010, 160, 55, 18][arity - 1]);
     let joining = random.pick(&[20, 50, 80, 100]);
     let kinds = any_shape(random, leaves, joining);
     let tree = labelled(random, &kinds, &labels);
@@ -162,10 +162,11 @@ fn most_records(all: &mut Vec<Limit>) {
 /// any line would fit, so that up to 84 bytes of it stay free.
 fn full_buffers(all: &mut Vec<Limit>) {
     let ends = |bytes: usize| (1..=3).any(|time| (time * (BUFFER - 90)..time * BUFFER + 90).contains(&bytes));
-    let widths = Widths::new();
-    for (first, second) in (1..TABLE / 2).flat_map(|first| (1..TABLE / 4).map(move |second| (first, second))) {
+    // few, since the program goes over all of them for each row
+    let (widths, most_records) = (Widths::new(), 900);
+    for (first, second) in (1..most_records).flat_map(|first| (1..most_records).map(move |second| (first, second))) {
         let bytes = widths.listing(first, second);
-        if 2 * first + 4 * second - 3 <= TABLE && ends(bytes) {
+        if 2 * first + 4 * second - 3 <= most_records && ends(bytes) {
             let input = pairs(first, second);
             assert_eq!(records::listing::listing(&input, usize::MAX).map(|text| text.len()), Some(bytes), "bytes listed");
             all.push(("limit: a text that fills the buffer", input));
