@@ -15,6 +15,9 @@ lines() {
     same "$1: lines on standard error" <(grep -c . "$out/said"; grep -c '^$' "$out/said") <(printf '%d\n0\n' "$2") || cat "$out/said"
 }
 
+# bounded COMMAND ..: ended where it runs on, and a closed pipe ends it, also where whatever runs this script has that signal ignored
+bounded() { timeout 20 env --default-signal=PIPE "$@"; }
+
 # ---- README.md
 
 readme=$(sed -n 's/^    \(\.\/list .*\)/\1/p' README.md)
@@ -62,7 +65,7 @@ same "its rows" <(sed -n 2p "$out/long"; wc -l <"$out/long") <(printf 'rows 8000
 
 # reads_two: what a reader gets that goes away after two lines, and with what ./list then ends
 reads_two() {
-    timeout 20 ./list "$1" | head -n 2
+    bounded ./list "$1" | head -n 2
     echo "list ended with ${PIPESTATUS[0]}"
 }
 prints "a reader that goes away" 0 <(printf '%s\nlist ended with 141\n' "$head_of_endless") reads_two "$out/endless.stream"
@@ -71,7 +74,7 @@ lines "a reader that goes away" 0
 # ---- a text that cannot be written
 
 # to_full COMMAND ..: a device that takes nothing
-to_full() { timeout 20 "$@" >/dev/full; }
+to_full() { bounded "$@" >/dev/full; }
 for stream in "$pairs" "$out/long.stream" "$out/endless.stream" /dev/null; do
     prints "the program, $stream onto a full device" 0 /dev/null to_full "${program[@]}" <"$stream"
     lines "the program, $stream onto a full device" 1

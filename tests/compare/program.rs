@@ -1,7 +1,7 @@
 //! Runs the listing program on an input.
 
 use crate::verdict::{same, Verdict};
-use std::io::{ErrorKind, Result, Write};
+use std::io::{self, ErrorKind, Write};
 use std::process::{Command, Output, Stdio};
 
 pub struct Program {
@@ -11,14 +11,14 @@ pub struct Program {
 
 impl Program {
     /// What it writes on standard output, if it ends well and says nothing else. The input comes in pieces of so many bytes.
-    pub fn text(&self, input: &[u8], piece: usize) -> std::result::Result<Vec<u8>, String> {
+    pub fn text(&self, input: &[u8], piece: usize) -> Result<Vec<u8>, String> {
         let ran = self.run(input, piece).map_err(|error| format!("{}: {error}", self.command[0]))?;
         same("standard error", String::from_utf8_lossy(&ran.stderr).as_ref(), "")?;
         ended_well(&ran)?;
         Ok(ran.stdout)
     }
 
-    fn run(&self, input: &[u8], piece: usize) -> Result<Output> {
+    fn run(&self, input: &[u8], piece: usize) -> io::Result<Output> {
         let mut command = Command::new(&self.command[0]);
         command.args(&self.command[1..]).stdin(Stdio::piped()).stdout(Stdio::piped()).stderr(Stdio::piped());
         let mut program = command.spawn()?;
