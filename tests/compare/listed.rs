@@ -17,6 +17,7 @@ pub struct Told {
     /// The refusal's number, or 0.
     pub answer: u8,
     pub bytes: usize,
+    pub has_no_row: bool,
     /// The rows compared with all markings; none where the tree has too many.
     pub rows: Option<usize>,
 }
@@ -24,7 +25,8 @@ pub struct Told {
 /// With no program the text by `records` is judged.
 pub fn judge(case: &Listing, number: usize, program: Option<&Program>, tally: &mut Tally) {
     let expected = records::listing::listing(&case.input, MOST_ROWS).expect("few rows");
-    let mut told = Told { answer: refusal_in(&expected).unwrap_or(0), bytes: expected.len(), rows: None };
+    let mut told = Told { answer: refusal_in(&expected).unwrap_or(0), bytes: expected.len(), ..Told::default() };
+    told.has_no_row = expected.ends_with("\nrows 0\n");
     let text = program.map_or(Ok(expected.clone().into_bytes()), |program| program.text(&case.input, case.piece));
     let verdict = text.and_then(|text| {
         same_entries("the text's lines:", &lines(&text), &lines(expected.as_bytes()))?;

@@ -36,8 +36,9 @@ struct Kind {
     rows: usize,
     records: usize,
     entries: usize,
-    /// Listings that no buffer of the program holds at once.
+    /// Listings that no buffer of the program holds at once, and those with no row.
     long: usize,
+    empty: usize,
 }
 
 #[derive(Default)]
@@ -52,8 +53,8 @@ impl Tally {
     /// Kinds stand in the order in which they come.
     fn kind(&mut self, name: &'static str, what: What) -> &mut Kind {
         let at = self.kinds.iter().position(|kind| kind.name == name && kind.what == what).unwrap_or_else(|| {
-            let (answers, listed, rows, records, entries, long) = ([0; 15], 0, 0, 0, 0, 0);
-            self.kinds.push(Kind { name, what, passed: 0, failed: 0, answers, listed, rows, records, entries, long });
+            let (answers, listed, rows, records, entries, long, empty) = ([0; 15], 0, 0, 0, 0, 0, 0);
+            self.kinds.push(Kind { name, what, passed: 0, failed: 0, answers, listed, rows, records, entries, long, empty });
             self.kinds.len() - 1
         });
         &mut self.kinds[at]
@@ -96,17 +97,21 @@ impl Tally {
         kind.rows += told.rows.unwrap_or(0);
         kind.entries += told.bytes;
         kind.long += (told.bytes > BUFFER) as usize;
+        kind.empty += told.has_no_row as usize;
         let rest = format!(" ({} bytes in pieces of {}: {})", case.input.len(), case.piece, words(case.input.iter()));
         self.judge(case.kind, What::Listings, &format!("listing {number}"), &rest, verdict);
     }
 
-    /// The program is run on many streams, with every refusal that it can give, and its buffer is filled more than once.
+    /// The program is run on many streams, with every refusal that it can give, long listings and some with no row.
     pub fn listings_are_enough(&mut self, fewest: usize) {
+        let name = "the program's streams";
         let met = |refusal: usize| self.sum(What::Listings, |kind| kind.answers[refusal]) > 0;
         let missing: Vec<usize> = OF_PROGRAM.into_iter().filter(|&refusal| !met(refusal)).collect();
-        let enough = self.sum(What::Listings, Kind::cases) >= fewest && self.sum(What::Listings, |kind| kind.long) > 0;
-        self.own("the program's streams", "refusals not met", same("refusals not met", missing, vec![]));
-        self.own("the program's streams", "number", same("enough streams, and long listings", enough, true));
+        let some = [|kind: &Kind| kind.long, |kind: &Kind| kind.empty].map(|of| self.sum(What::Listings, of) > 0);
+        let many = self.sum(What::Listings, Kind::cases) >= fewest;
+        self.own(name, "refusals", same("refusals not met", missing, vec![]));
+        self.own(name, "length", same("some long listings, some with no row", some, [true, true]));
+        self.own(name, "number", same("enough streams", many, true));
     }
 
     pub fn question(&mut self, trial: &QuestionTrial, answer: u8, entries: usize, verdict: Verdict) {
@@ -149,11 +154,12 @@ impl Tally {
         );
         let listings = |of: fn(&Kind) -> usize| self.sum(What::Listings, of);
         println!(
-            "{} listings, {} answered, with {} bytes, {} of more than {BUFFER}; {} held to all markings, {} rows",
+            "{} listings, {} answered, with {} bytes, {} of more than {BUFFER}, {} with no row; {} held to all markings, {} rows",
             listings(Kind::cases),
             listings(|kind| kind.answers[0]),
             listings(|kind| kind.entries),
             listings(|kind| kind.long),
+            listings(|kind| kind.empty),
             listings(|kind| kind.listed),
             listings(|kind| kind.rows),
         );
