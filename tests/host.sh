@@ -1,6 +1,6 @@
-# For the scripts beside it and in examples/, from the repository's root: builds Rust programs for this host, and C and Fortran
-# programs on the library's archive. The kit compiles for x86-64. On an Arm host a C or Fortran program is built for x86-64 too, linked
-# statically, and run under the kit's emulator.
+# For the scripts beside it and in examples/, from the repository's root: installs what a host lacks, builds Rust programs for this
+# host, and C and Fortran programs on the library's archive. The kit compiles for x86-64. On an Arm host a C or Fortran program is
+# built for x86-64 too, linked statically, and run under the kit's emulator, as the listing program is.
 
 out=target/tests
 mkdir -p "$out" || exit 2
@@ -12,38 +12,81 @@ give_up() {
     exit 1
 }
 
-# rust_library NAME [FILE] and rust_program NAME FILE [WORDS ..]: a library is made from tests/NAME/lib.rs, or from FILE
-rust_library() {
-    rustc -O --edition 2021 --crate-type rlib --crate-name "$1" "${2:-tests/$1/lib.rs}" --out-dir "$out" || give_up "$1 does not compile"
+# The checks of a script are counted.
+passed=0 failed=0
+
+# same LABEL FILE FILE: what is, and what must be
+same() {
+    if difference=$(diff -a "$2" "$3"); then
+        passed=$((passed + 1))
+    else
+        failed=$((failed + 1))
+        printf '%s: what is (<), and what must be (>)\n%s\n' "$1" "$difference"
+        return 1
+    fi
 }
-rust_program() {
-    local name=$1 file=$2
-    shift 2
-    rustc -O --edition 2021 --crate-name "$name" "$file" -o "$out/$name" "$@" || give_up "$name does not compile"
+
+# prints LABEL STATUS FILE COMMAND ..: the command prints what stands in FILE and ends with STATUS. What it says on standard error
+# is left in $out/said.
+prints() {
+    local label=$1 status=$2 file=$3
+    shift 3
+    "$@" >"$out/printed" 2>"$out/said"
+    echo "exit status $?" >>"$out/printed"
+    { cat "$file" && echo "exit status $status"; } >"$out/must_be_printed"
+    same "$label" "$out/printed" "$out/must_be_printed" || cat "$out/said"
+}
+
+end_checks() {
+    echo "$passed passed, $failed failed"
+    [ "$failed" -eq 0 ]
+    exit
 }
 
 case $(uname -m) in
 aarch64 | arm64)
     compiler=x86_64-linux-gnu-gcc fortran=x86_64-linux-gnu-gfortran compiler_words=(-static)
     compiler_packages=(gcc-x86-64-linux-gnu libc6-dev-amd64-cross) fortran_packages=(gfortran-x86-64-linux-gnu)
-    runner=("$(cd "$(dirname "$(readlink -f "$(command -v rt)")")/.." && pwd -P)/on/aarch64/toolchain/bin/qemu-x86_64")
+    tools=$(cd "$(dirname "$(readlink -f "$(command -v rt)")")/.." && pwd -P)/on/aarch64/toolchain
+    runner=("$tools/bin/qemu-x86_64")
+    program_runner=("${runner[@]}" "$tools/lib/ld-linux-x86-64.so.2" --library-path "$tools/lib")
     ;;
 *)
-    compiler=gcc fortran=gfortran compiler_words=() compiler_packages=() fortran_packages=() runner=()
+    compiler=gcc fortran=gfortran compiler_words=()
+    compiler_packages=(gcc libc6-dev) fortran_packages=(gfortran libc6-dev)
+    runner=() program_runner=()
     ;;
 esac
 
-# need PROGRAM [PACKAGES ..]: a compiler, installed where it is missing, on an Arm host
+# need PROGRAM PACKAGES ..: a program, installed from Debian's packages where it is missing
 need() {
     local program=$1
     shift
     command -v "$program" >/dev/null && return
-    [ "$#" -gt 0 ] || give_up "no $program"
-    { apt-get update && apt-get install -y "$@"; } >"$out/apt-get.log" 2>&1 ||
-        give_up "no $program, and apt-get cannot install it: see $out/apt-get.log"
+    echo "no $program: apt-get installs $*"
+    { apt-get update && DEBIAN_FRONTEND=noninteractive apt-get install -y --no-install-recommends "$@"; } \
+        >"$out/apt-get.log" 2>&1 </dev/null && command -v "$program" >/dev/null ||
+        give_up "no $program, and apt-get cannot install $*: see $out/apt-get.log"
 }
 need_compiler() { need "$compiler" "${compiler_packages[@]}"; }
 need_fortran() { need "$fortran" "${fortran_packages[@]}"; }
+# rustc links with the host's own compiler
+need_rust() { need cc gcc libc6-dev && need rustc rustc; }
+# on an Arm host the Rust example is left out, and valgrind, which reads the C library's symbols, runs no x86-64 program
+need_cargo() { [ "${#runner[@]}" -gt 0 ] || need cargo cargo; }
+need_valgrind() { [ "${#runner[@]}" -gt 0 ] || need valgrind valgrind libc6-dbg; }
+
+# rust_library NAME [FILE] and rust_program NAME FILE [WORDS ..]: a library is made from tests/NAME/lib.rs, or from FILE
+rust_library() {
+    need_rust
+    rustc -O --edition 2021 --crate-type rlib --crate-name "$1" "${2:-tests/$1/lib.rs}" --out-dir "$out" || give_up "$1 does not compile"
+}
+rust_program() {
+    local name=$1 file=$2
+    shift 2
+    need_rust
+    rustc -O --edition 2021 --crate-name "$name" "$file" -o "$out/$name" "$@" || give_up "$name does not compile"
+}
 
 # Sets `archive`: TARN_ARCHIVE if that is set, else that of crate `c`, which is proved first if it has changed.
 need_archive() {
@@ -51,6 +94,15 @@ need_archive() {
     [ -n "${TARN_ARCHIVE:-}" ] || rt staticlib c >"$out/staticlib.log" 2>&1 ||
         give_up "rt staticlib c: $(tail -n 1 "$out/staticlib.log") (see $out/staticlib.log)"
     [ -f "$archive" ] || give_up "no archive $archive"
+}
+
+# Sets `program`, the command of the listing program: TARN_PROGRAM if that is set, else crate `list`, proved first if it has changed.
+need_program() {
+    local file=${TARN_PROGRAM:-target/bin/list}
+    [ -n "${TARN_PROGRAM:-}" ] || rt check list >"$out/list.log" 2>&1 ||
+        give_up "rt check list: $(tail -n 1 "$out/list.log") (see $out/list.log)"
+    [ -x "$file" ] || give_up "no program $file"
+    program=("${program_runner[@]}" "$file")
 }
 
 # c_program NAME FILE [WORDS ..]: linked with the archive by its path, since its name may be that of the system's library

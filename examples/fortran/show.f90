@@ -6,6 +6,7 @@
 ! Lists rows FIRST to LAST, projects PLACE and fixes it at NODE, and looks for ROW, a node for each place.
 program show
   use, intrinsic :: iso_c_binding, only: c_int8_t, c_int16_t, c_int64_t
+  use, intrinsic :: iso_fortran_env, only: error_unit
   use tarnsatchel
   implicit none
 
@@ -14,7 +15,7 @@ program show
   type(tarn_record), allocatable :: table(:), target(:)
   integer(c_int16_t) :: head(6)
 
-  if (command_argument_count() < 6) error stop 'usage: show STREAM FIRST LAST PLACE NODE ROW ..'
+  if (command_argument_count() < 6) call stop_unable('usage: show STREAM FIRST LAST PLACE NODE ROW ..')
   allocate (work(tarn_most_work), table(tarn_most_records), target(tarn_most_records))
   input = stream(word(1))
   call stop_if_refused('build', tarn_build(input, work, table, head))
@@ -47,13 +48,20 @@ contains
   function stream(name) result(bytes)
     character(*), intent(in) :: name
     integer(c_int8_t), allocatable :: bytes(:)
-    integer :: unit, length
-    open (newunit=unit, file=name, access='stream', form='unformatted', action='read', status='old')
+    integer :: unit, length, status
+    open (newunit=unit, file=name, access='stream', form='unformatted', action='read', status='old', iostat=status)
+    if (status /= 0) call stop_unable('cannot open ' // name)
     inquire (unit, size=length)
     allocate (bytes(max(length, 0)))
     read (unit) bytes
     close (unit)
   end function
+
+  subroutine stop_unable(why)
+    character(*), intent(in) :: why
+    write (error_unit, '(a)') why
+    stop 2, quiet=.true.
+  end subroutine
 
   ! A refusal is told and ends the program.
   subroutine stop_if_refused(asked, refused)

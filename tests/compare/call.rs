@@ -104,7 +104,8 @@ impl Buffer {
     /// A buffer of this kind and length from the driver's bytes; none where they are cut.
     fn from_driver(&self, bytes: &mut &[u8]) -> Option<Buffer> {
         let mut take = |size: usize| {
-            let (taken, rest) = bytes.split_at_checked(size * self.len())?;
+            let end = size * self.len();
+            let (taken, rest) = (bytes.get(..end)?, &bytes[end..]);
             *bytes = rest;
             Some(taken.chunks_exact(size))
         };

@@ -101,7 +101,7 @@ pub fn lend(random: &mut Random, kind: &'static str, input: Vec<u8>, room: Room,
     let (work, table) = match (room, records::needs(&input)) {
         (Room::Of(work, table), _) => (work, table),
         (_, Err(_)) => (random.below(40), random.below(20)),
-        (_, Ok(needs)) if needs.records.is_none_or(|made| made > longest) => {
+        (_, Ok(needs)) if needs.records.map_or(true, |made| made > longest) => {
             (needs.work + random.below(9), random.between(1, longest))
         }
         (room, Ok(needs)) => lengths(random, room, needs.work, needs.records.unwrap_or(longest)),

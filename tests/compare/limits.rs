@@ -15,11 +15,11 @@ pub struct Limit {
 }
 
 const TREE_A: &[u8] = &[1, 5, 1, 5, 2, 9];
-const TREE_B: &[u8] = &[1, 5, 1, 5, 2, 9, 1, 5, 2, 9];
+pub const TREE_B: &[u8] = &[1, 5, 1, 5, 2, 9, 1, 5, 2, 9];
 const TREE_C: &[u8] = &[1, 5];
 
 /// The leaves of a tree of 4,095 nodes.
-const MOST_LEAVES: usize = 2048;
+pub const MOST_LEAVES: usize = 2048;
 
 pub fn all() -> Vec<Limit> {
     let mut limits = Vec::new();
@@ -49,11 +49,11 @@ fn add_enough(limits: &mut Vec<Limit>, kind: &'static str, parts: &[&[u8]]) {
     add(limits, kind, parts, Room::Enough);
 }
 
-fn q() -> Vec<u8> {
+pub fn q() -> Vec<u8> {
     query_q().concat()
 }
 
-fn tree_for_q(kinds: &[u8]) -> Vec<u8> {
+pub fn tree_for_q(kinds: &[u8]) -> Vec<u8> {
     kinds.iter().flat_map(|&kind| [kind, if kind == LEAF { 5 } else { 9 }]).collect()
 }
 
@@ -107,7 +107,7 @@ fn most_work(limits: &mut Vec<Limit>) {
 }
 
 /// Rules with different left sides; those for label 9 come first, so that many of them match.
-fn different_rules(count: usize) -> Vec<u8> {
+pub fn different_rules(count: usize) -> Vec<u8> {
     let leaf = (0..16).map(|flag| vec![LEAF_RULE, 5, flag, flag]);
     let branch = (0..).map(|n: usize| {
         let (right, left, flag, label) = (n % 16, n / 16 % 16, n / 256 % 16, 9 + n / 4096);
@@ -304,7 +304,7 @@ fn all_states_accepting(limits: &mut Vec<Limit>) {
 
 /// A stream whose build makes just so many records: a comb of which each leaf but the first adds 38 (7 singles, 12 products and
 /// 19 unions), and at its end leaves that add 7 singles or one, in a state that no other rule knows.
-fn making(count: usize) -> Vec<u8> {
+pub fn making(count: usize) -> Vec<u8> {
     let labels = labels_of_q();
     let mut query = places_seen(3, 9, &labels, false);
     let (seven, one) = (7, 10);

@@ -39,7 +39,7 @@ impl Making {
     pub fn counting(&mut self, count: u128, node: u16, flag: u16) -> u16 {
         let one = self.single(node, flag);
         let mut record = one;
-        for digit in (0..count.ilog2()).rev() {
+        for digit in (0..u128::BITS - 1 - count.leading_zeros()).rev() {
             record = self.union(record, record);
             if count >> digit & 1 == 1 {
                 record = self.union(record, one);

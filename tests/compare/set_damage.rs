@@ -61,7 +61,10 @@ fn any_used(random: &mut Random, set: &WholeSet) -> Option<usize> {
 }
 
 pub fn record_changed(random: &mut Random, set: &mut WholeSet) {
-    let Some(at) = any_used(random, set) else { return };
+    let at = match any_used(random, set) {
+        Some(at) => at,
+        None => return,
+    };
     let Record { kind, node, left, right, flag } = set.table[at];
     let mut fields = [kind, node, left, right, flag];
     let field = &mut fields[random.below(5)];
@@ -72,7 +75,10 @@ pub fn record_changed(random: &mut Random, set: &mut WholeSet) {
 
 /// An operand that is the record itself, or one behind it that has it as operand.
 pub fn cycle(random: &mut Random, set: &mut WholeSet) {
-    let Some(at) = any_used(random, set) else { return };
+    let at = match any_used(random, set) {
+        Some(at) => at,
+        None => return,
+    };
     let behind = random.between(at, set.head[USED] as usize - 1);
     let kind = random.pick(&[2, 3]);
     let (near, far) = (at as u16, behind as u16);
@@ -83,7 +89,10 @@ pub fn cycle(random: &mut Random, set: &mut WholeSet) {
 }
 
 pub fn flag_out_of_range(random: &mut Random, set: &mut WholeSet) {
-    let Some(at) = any_used(random, set) else { return };
+    let at = match any_used(random, set) {
+        Some(at) => at,
+        None => return,
+    };
     let end = 1 << set.head[ARITY];
     let flag = set.table[at].flag;
     set.table[at].flag = random.pick(&[0, end, end | flag, 16 | flag, 256 | flag, 32_768 | flag, 65_535]);

@@ -3,18 +3,22 @@
 use crate::asked::QuestionTrial;
 use crate::cases::Case;
 use crate::check::Seen;
-use crate::verdict::Verdict;
+use crate::listed::Told;
+use crate::listings::{Listing, BUFFER};
+use crate::verdict::{same, Verdict};
 
 const MOST_PRINTED: usize = 20;
 const LONGEST_PRINTED: usize = 160;
 
-/// Refusals in the order in which a build and a question give them.
+/// Refusals in the order in which a build, the program and a question give them.
 const OF_BUILD: [usize; 6] = [1, 2, 3, 4, 5, 6];
+const OF_PROGRAM: [usize; 7] = [14, 1, 2, 3, 4, 5, 6];
 const OF_QUESTION: [usize; 9] = [5, 11, 13, 7, 8, 9, 10, 6, 12];
 
 #[derive(Clone, Copy, PartialEq)]
 enum What {
     Streams,
+    Listings,
     Questions,
     Own,
 }
@@ -25,13 +29,16 @@ struct Kind {
     what: What,
     passed: usize,
     failed: usize,
-    /// By answer: answered, then refused 1 to 13.
-    answers: [usize; 14],
+    /// By answer: answered, then refused 1 to 14.
+    answers: [usize; 15],
     /// Answered ones held to a plain list of rows; for a stream the list is that of all markings.
     listed: usize,
     rows: usize,
     records: usize,
     entries: usize,
+    /// Listings that no buffer of the program holds at once, and those with no row.
+    long: usize,
+    empty: usize,
 }
 
 #[derive(Default)]
@@ -46,8 +53,8 @@ impl Tally {
     /// Kinds stand in the order in which they come.
     fn kind(&mut self, name: &'static str, what: What) -> &mut Kind {
         let at = self.kinds.iter().position(|kind| kind.name == name && kind.what == what).unwrap_or_else(|| {
-            let (answers, listed, rows, records, entries) = ([0; 14], 0, 0, 0, 0);
-            self.kinds.push(Kind { name, what, passed: 0, failed: 0, answers, listed, rows, records, entries });
+            let (answers, listed, rows, records, entries, long, empty) = ([0; 15], 0, 0, 0, 0, 0, 0);
+            self.kinds.push(Kind { name, what, passed: 0, failed: 0, answers, listed, rows, records, entries, long, empty });
             self.kinds.len() - 1
         });
         &mut self.kinds[at]
@@ -55,9 +62,9 @@ impl Tally {
 
     /// The difference comes before the rest of what is said of a case, which may be long.
     fn judge(&mut self, name: &'static str, what: What, label: &str, rest: &str, verdict: Verdict) {
-        let Err(difference) = verdict else {
-            self.kind(name, what).passed += 1;
-            return;
+        let difference = match verdict {
+            Ok(()) => return self.kind(name, what).passed += 1,
+            Err(difference) => difference,
         };
         self.kind(name, what).failed += 1;
         self.printed += 1;
@@ -81,6 +88,30 @@ impl Tally {
         let lent = format!("work of {}, table of {}", case.work.len(), case.table.len());
         let rest = format!(" ({lent}, stream {})", words(case.input.iter()));
         self.judge(case.kind, What::Streams, &format!("case {number}"), &rest, verdict);
+    }
+
+    pub fn listing(&mut self, case: &Listing, number: usize, told: &Told, verdict: Verdict) {
+        let kind = self.kind(case.kind, What::Listings);
+        kind.answers[told.answer as usize] += 1;
+        kind.listed += told.rows.is_some() as usize;
+        kind.rows += told.rows.unwrap_or(0);
+        kind.entries += told.bytes;
+        kind.long += (told.bytes > BUFFER) as usize;
+        kind.empty += told.has_no_row as usize;
+        let rest = format!(" ({} bytes in pieces of {}: {})", case.input.len(), case.piece, words(case.input.iter()));
+        self.judge(case.kind, What::Listings, &format!("listing {number}"), &rest, verdict);
+    }
+
+    /// The program is run on many streams, with every refusal that it can give, long listings and some with no row.
+    pub fn listings_are_enough(&mut self, fewest: usize) {
+        let name = "the program's streams";
+        let met = |refusal: usize| self.sum(What::Listings, |kind| kind.answers[refusal]) > 0;
+        let missing: Vec<usize> = OF_PROGRAM.into_iter().filter(|&refusal| !met(refusal)).collect();
+        let some = [|kind: &Kind| kind.long, |kind: &Kind| kind.empty].map(|of| self.sum(What::Listings, of) > 0);
+        let many = self.sum(What::Listings, Kind::cases) >= fewest;
+        self.own(name, "refusals", same("refusals not met", missing, vec![]));
+        self.own(name, "length", same("some long listings, some with no row", some, [true, true]));
+        self.own(name, "number", same("enough streams", many, true));
     }
 
     pub fn question(&mut self, trial: &QuestionTrial, answer: u8, entries: usize, verdict: Verdict) {
@@ -109,6 +140,7 @@ impl Tally {
     pub fn print(&self, with_driver: bool) {
         self.print_kinds(What::Own, "checks", &[]);
         self.print_kinds(What::Streams, "streams", &OF_BUILD);
+        self.print_kinds(What::Listings, "listings", &OF_PROGRAM);
         self.print_kinds(What::Questions, "questions", &OF_QUESTION);
         let streams = |of: fn(&Kind) -> usize| self.sum(What::Streams, of);
         let questions = |of: fn(&Kind) -> usize| self.sum(What::Questions, of);
@@ -119,6 +151,17 @@ impl Tally {
             streams(|kind| kind.records),
             streams(|kind| kind.listed),
             streams(|kind| kind.rows),
+        );
+        let listings = |of: fn(&Kind) -> usize| self.sum(What::Listings, of);
+        println!(
+            "{} listings, {} answered, with {} bytes, {} of more than {BUFFER}, {} with no row; {} held to all markings, {} rows",
+            listings(Kind::cases),
+            listings(|kind| kind.answers[0]),
+            listings(|kind| kind.entries),
+            listings(|kind| kind.long),
+            listings(|kind| kind.empty),
+            listings(|kind| kind.listed),
+            listings(|kind| kind.rows),
         );
         println!(
             "{} questions, {} answered, {} held to a list of rows: {} counts, {} rows, {} members, {} projections, {} fixings",
@@ -133,9 +176,9 @@ impl Tally {
         );
         if with_driver {
             let entries = streams(|kind| kind.entries) + questions(|kind| kind.entries);
-            println!("the library compared in all, {entries} entries of its buffers");
+            println!("the library compared in all, {entries} entries of its buffers, and the program in every listing");
         } else {
-            println!("no driver: the two programs compared with each other, and no library");
+            println!("no driver: the two programs compared with each other, and no library and no listing program");
         }
         let passed: usize = self.kinds.iter().map(|kind| kind.passed).sum();
         println!("{passed} passed, {} failed", self.failed());

@@ -5,7 +5,6 @@ use crate::call::{Call, Left};
 use crate::driver::{Driver, Ran};
 use crate::tally::Tally;
 use crate::verdict::{same_entries, Verdict};
-use std::process::{Command, Stdio};
 
 /// A batch goes to the driver in one file.
 const BATCH: usize = 500;
@@ -70,7 +69,10 @@ impl<'a> Trials<'a> {
 
     /// Runs what is waiting.
     fn run(&mut self, tally: &mut Tally) {
-        let Some(driver) = self.driver else { return };
+        let driver = match self.driver {
+            Some(driver) => driver,
+            None => return,
+        };
         let batch = std::mem::take(&mut self.waiting);
         let label = format!("batch at call {}", self.done);
         let input: Vec<u8> = batch.iter().flat_map(|waiting| waiting.bytes.iter().copied()).collect();
@@ -100,14 +102,18 @@ impl<'a> Trials<'a> {
 
     /// Runs the rest, and the few under valgrind.
     pub fn end(mut self, tally: &mut Tally) {
-        let Some(driver) = self.driver else { return };
+        let driver = match self.driver {
+            Some(driver) => driver,
+            None => return,
+        };
         self.run(tally);
-        if !has_valgrind() {
+        if cfg!(not(target_arch = "x86_64")) {
             println!("no valgrind for x86-64 programs on this host: no call is run under it");
             return;
         }
-        let ran = driver.run(&VALGRIND, "heap", &self.few.input).expect("valgrind runs");
-        tally.own("a few calls under valgrind", &format!("all {}", self.few.calls), ends_with(ran, &self.few.output));
+        let ran = driver.run(&VALGRIND, "heap", &self.few.input).map_err(|error| format!("{}: {error}", VALGRIND[0]));
+        let verdict = ran.and_then(|ran| ends_with(ran, &self.few.output));
+        tally.own("a few calls under valgrind", &format!("all {}", self.few.calls), verdict);
         println!("{} calls were run under valgrind too", self.few.calls);
     }
 }
@@ -116,9 +122,4 @@ impl<'a> Trials<'a> {
 fn ends_with(ran: Ran, output: &[u8]) -> Verdict {
     ran.end?;
     same_entries("byte of all that is left", &ran.output, output)
-}
-
-fn has_valgrind() -> bool {
-    let asked = Command::new(VALGRIND[0]).arg("--version").stdout(Stdio::null()).stderr(Stdio::null()).status();
-    cfg!(target_arch = "x86_64") && asked.is_ok_and(|status| status.success())
 }

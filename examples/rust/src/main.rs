@@ -34,14 +34,25 @@ fn words() -> Result<Words, Box<dyn Error>> {
     Ok(Words { stream, first, last, place, node, row: words.map(|word| word.parse()).collect::<Result<_, _>>()? })
 }
 
-fn main() -> Result<ExitCode, Box<dyn Error>> {
+fn main() -> ExitCode {
+    match run() {
+        Ok(status) => status,
+        Err(error) => {
+            eprintln!("{error}");
+            ExitCode::from(2)
+        }
+    }
+}
+
+/// A refusal is told and ends the program.
+fn run() -> Result<ExitCode, Box<dyn Error>> {
     let words = words()?;
     let input = fs::read(&words.stream)?;
     match show(&input, &words) {
         Ok(()) => Ok(ExitCode::SUCCESS),
         Err(refused) => {
             println!("{refused}");
-            Ok(ExitCode::FAILURE)
+            Ok(ExitCode::from(1))
         }
     }
 }
