@@ -1,6 +1,6 @@
 #!/usr/bin/env bash
-# Runs ./list as a user does: README.md's own example letter by letter, each exit status, a text that cannot be written or that nobody
-# reads on; then, with stand-ins for the program and for rt, what it says while it proves and builds, and what it does where that
+# First that one file alone can write. Then ./list as a user runs it: README.md's own example letter by letter, each exit status, a text
+# that cannot be written or that nobody reads on; then, with stand-ins for the program and for rt, what it says while it proves and builds, and what it does where that
 # fails. tests/compare.sh holds the program's texts to the independent programs. The last line is 'N passed, M failed'.
 set -u
 cd "$(dirname "$0")/.." || exit 2
@@ -17,6 +17,13 @@ lines() {
 
 # bounded COMMAND ..: ended where it runs on, and a closed pipe ends it, also where whatever runs this script has that signal ignored
 bounded() { timeout 20 env --default-signal=PIPE "$@"; }
+
+# ---- who calls the system
+
+# No contract says what a call wrote. So only one file may call a function that can: the one whose contract says what it may write.
+calls_of() { grep -oE '\b(io|libc|os)::[a-z_]+' crates/*/src/*.rt | sort -u; }
+same "the rooms that can call the system" <(grep -E ':.*\b(io|libc|os)\b' crates.txt | cut -d : -f 1) <(echo list)
+same "what is called" <(calls_of) <(printf 'crates/list/src/%s\n' handed.rt:io::write_all main.rt:io::large_buffer main.rt:io::read_full text.rt:io::decimal)
 
 # ---- README.md
 
