@@ -1,7 +1,8 @@
 #!/usr/bin/env bash
-# First that one file alone can write. Then ./list as a user runs it: README.md's own example letter by letter, each exit status, a text
-# that cannot be written or that nobody reads on; then, with stand-ins for the program and for rt, what it says while it proves and builds, and what it does where that
-# fails. tests/compare.sh holds the program's texts to the independent programs. The last line is 'N passed, M failed'.
+# First that one file alone can write. Then ./list as a user runs it: README.md's own example letter by letter, each exit status, a
+# text that cannot be written or that nobody reads on; then, with stand-ins for the program and for rt, what it says while it proves
+# and builds, and what it does where that fails. tests/compare.sh holds the program's texts to the independent programs. The last
+# line is 'N passed, M failed'.
 set -u
 cd "$(dirname "$0")/.." || exit 2
 . tests/host.sh
