@@ -11,7 +11,7 @@ cd "$(dirname "$0")/.." || exit 2
 refused_in() { # LOG
     awk '
         /^[^ ]+: error: / && !/ was not admitted / { print $1; shown = 1; exit }
-        /: no proof: expected / && !would { would = $0; sub(/.* in /, "", would); sub(/;.*/, "", would) }
+        /: no proof: expected .* does not close / && !would { would = $0; sub(/.* in /, "", would); sub(/;.*/, "", would) }
         END { if (!shown) print would }' "$1"
 }
 
