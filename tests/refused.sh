@@ -1,7 +1,8 @@
 #!/usr/bin/env bash
 # Where the must-fail edits are refused. `rt ci` wants a refusal anywhere; tests/refused.txt names, for each edit of every crate, the proof
 # file of the first fact that no longer holds. This compares it with what rt left of its last run: an edit refused in another file, an
-# edit without a line and a line without an edit fail. (The edits of tests/across name their theorem themselves.)
+# edit without a line and a line without an edit fail. It tries nothing itself, so it must follow `rt ci` or `rt must-fail`. (The edits of
+# tests/across name their theorem themselves.)
 set -u
 export LC_ALL=C
 cd "$(dirname "$0")/.." || exit 2

@@ -142,46 +142,35 @@ impl Tally {
         self.print_kinds(What::Streams, "streams", &OF_BUILD);
         self.print_kinds(What::Listings, "listings", &OF_PROGRAM);
         self.print_kinds(What::Questions, "questions", &OF_QUESTION);
-        let streams = |of: fn(&Kind) -> usize| self.sum(What::Streams, of);
-        let questions = |of: fn(&Kind) -> usize| self.sum(What::Questions, of);
-        println!(
-            "{} streams, {} answered, with {} records; {} held to all markings, {} rows",
-            streams(Kind::cases),
-            streams(|kind| kind.answers[0]),
-            streams(|kind| kind.records),
-            streams(|kind| kind.listed),
-            streams(|kind| kind.rows),
-        );
+        let streams = format!("with {} records", self.sum(What::Streams, |kind| kind.records));
+        println!("{}", self.summary(What::Streams, "streams", &streams));
         let listings = |of: fn(&Kind) -> usize| self.sum(What::Listings, of);
-        println!(
-            "{} listings, {} answered, with {} bytes, {} of more than {BUFFER}, {} with no row; {} held to all markings, {} rows",
-            listings(Kind::cases),
-            listings(|kind| kind.answers[0]),
+        let texts = format!(
+            "with {} bytes, {} of more than {BUFFER}, {} with no row",
             listings(|kind| kind.entries),
             listings(|kind| kind.long),
             listings(|kind| kind.empty),
-            listings(|kind| kind.listed),
-            listings(|kind| kind.rows),
         );
-        println!(
-            "{} questions, {} answered, {} held to a list of rows: {} counts, {} rows, {} members, {} projections, {} fixings",
-            questions(Kind::cases),
-            questions(|kind| kind.answers[0]),
-            questions(|kind| kind.listed),
-            self.asked[0],
-            self.asked[1],
-            self.asked[2],
-            self.asked[3],
-            self.asked[4],
-        );
+        println!("{}", self.summary(What::Listings, "listings", &texts));
+        let [counts, rows, members, projections, fixings] = self.asked;
+        let asked = format!("{counts} counts, {rows} rows, {members} members, {projections} projections, {fixings} fixings");
+        println!("{}", self.summary(What::Questions, "questions", &asked));
         if with_driver {
-            let entries = streams(|kind| kind.entries) + questions(|kind| kind.entries);
+            let entries = self.sum(What::Streams, |kind| kind.entries) + self.sum(What::Questions, |kind| kind.entries);
             println!("the library compared in all, {entries} entries of its buffers, and the program in every listing");
         } else {
             println!("no driver: the two programs compared with each other, and no library and no listing program");
         }
         let passed: usize = self.kinds.iter().map(|kind| kind.passed).sum();
         println!("{passed} passed, {} failed", self.failed());
+    }
+
+    /// How many cases, how many of them answered and held to rows found by another way, and what there is to say of them.
+    fn summary(&self, what: What, name: &str, more: &str) -> String {
+        let [cases, answered, listed, rows] =
+            [Kind::cases, |kind: &Kind| kind.answers[0], |kind: &Kind| kind.listed, |kind: &Kind| kind.rows]
+                .map(|of| self.sum(what, of));
+        format!("{cases} {name}, {answered} answered, {more}; {listed} held to a list of rows, {rows} rows")
     }
 
     fn print_kinds(&self, what: What, title: &str, refusals: &[usize]) {

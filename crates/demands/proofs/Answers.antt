@@ -24,6 +24,7 @@ use Rattle.paper.specs.Records.{listing}
 use Rattle.paper.specs.Refusals.{Reply, answer, isOpen, outputAfter, over}
 use Rattle.paper.specs.Row.{Row}
 use Rattle.laws.specs.Built.{BuiltSet, InAnswer, SaysTheAnswer, Stood}
+use Rattle.laws.specs.QuestionRows.{WrongEntry}
 use Rattle.laws.specs.Said.{SaysTheRows}
 use Rattle.laws.proofs.Answers.{one-counted, one-member, one-projected, one-written}
 use Rattle.laws.proofs.BuiltSets.{built-good, built-right}
@@ -50,6 +51,7 @@ calls-say h table rows S = record {
     λ e. S .members (length w) enough row .0 (sym (c .answer) ∙ ap saysMember e),
     λ m. one-member r _ (c .answer ∙ S .members (length w) enough row .1 m),
   );
+  others = λ w w′ row r enough long right none c. one-member r _ (c .answer ∙ S .others (length w) enough row long right none);
   projects = λ w w′ out out′ place r enough is-open room c.
       let answered = S .projects (length w) place (length out) enough is-open room in (
         one-projected r _ (c .answer ∙ ap (told (λ _. tt)) answered),
@@ -84,6 +86,11 @@ module _ (input work : List ℕ) (table : List Record) (h : Head) (work′ : Lis
   pub member-right : (w w′ : List ℕ) (row : Row) (r : Member) → questionWork h ≤ length w → Members h table′ w row r w′
       → (r ≡ MemberIs.Listed) ↔ InAnswer input row
   member-right w w′ row r enough c = Iff·trans (say .members w w′ row r enough c) (right .lists row)
+
+  -- and no to every other row that has an entry a place, none of them wrong
+  pub other-right : (w w′ : List ℕ) (row : Row) (r : Member) → questionWork h ≤ length w → length row ≡ h .arity → (WrongEntry h row → ⊥)
+      → (InAnswer input row → ⊥) → Members h table′ w row r w′ → r ≡ MemberIs.NotListed
+  other-right w w′ row r enough long wrong none = say .others w w′ row r enough long wrong (λ m. none (right .lists row .0 m))
 
   -- project marks exactly the nodes that stand there in some accepted row
   pub project-right : (w w′ out out′ : List ℕ) (place : ℕ) (r : Projected) → questionWork h ≤ length w → isOpen h place ≡ true

@@ -24,6 +24,7 @@ use Rattle.paper.specs.Refusals.{answer, isOpen, over}
 use Rattle.paper.specs.Row.{Row, blank}
 use Rattle.laws.specs.Built.{InAnswer}
 use Rattle.laws.specs.Fixings.{DifferentPlaces, FixedFrom, LeftOf, asUsed, narrowed}
+use Rattle.laws.specs.QuestionRows.{WrongEntry}
 use Rattle.laws.specs.Said.{SaysTheRows}
 use Rattle.laws.proofs.BuiltSets.{built-open}
 use Rattle.laws.proofs.Narrowing.{mem-narrowed}
@@ -97,6 +98,12 @@ module _ (input work : List ℕ) (table : List Record) (h : Head) (work′ : Lis
   pub member-narrowed : (w w′ : List ℕ) (row : Row) (r : Member) → questionWork head ≤ length w → Members head left w row r w′
       → (r ≡ MemberIs.Listed) ↔ LeftOf (InAnswer input) (fixingsIn cs) row
   member-narrowed w w′ row r enough c = Iff·trans (say .members w w′ row r enough c) (narrowed-accepted row)
+
+  -- and no to every other row that has an entry a place, none of them wrong
+  pub other-narrowed : (w w′ : List ℕ) (row : Row) (r : Member) → questionWork head ≤ length w → length row ≡ h .arity → (WrongEntry head row → ⊥)
+      → (LeftOf (InAnswer input) (fixingsIn cs) row → ⊥) → Members head left w row r w′ → r ≡ MemberIs.NotListed
+  other-narrowed w w′ row r enough long wrong none =
+      say .others w w′ row r enough (long ∙ sym (fixed .arity)) wrong (λ m. none (narrowed-accepted row .0 m))
 
   -- project of a place that was not fixed marks exactly the nodes that stand there in what is left of some accepted row
   pub project-narrowed : (w w′ out out′ : List ℕ) (place : ℕ) (r : Projected) → questionWork head ≤ length w → 1 ≤ place → place ≤ h .arity

@@ -19,6 +19,7 @@ use Rattle.paper.specs.Lists.{_∈_}
 use Rattle.paper.specs.Questions.{marksOf, questionWork}
 use Rattle.paper.specs.Refusals.{isOpen, over}
 use Rattle.paper.specs.Row.{Row}
+use Rattle.laws.specs.QuestionRows.{WrongEntry}
 use Rattle.laws.specs.Said.{StandsIn}
 use Rattle.member.specs.Face.{Members}
 use Rattle.project.specs.Face.{Projects}
@@ -35,6 +36,9 @@ pub record CallsSay (h : Head) (table : List Record) (rows : List Row) : Type 0 
   -- member says yes exactly to the rows of the list, whatever row it is given
   pub members : (w w′ : List ℕ) (row : Row) (r : Member) → questionWork h ≤ length w → Members h table w row r w′
       → (r ≡ MemberIs.Listed) ↔ (row ∈ rows)
+  -- and no to every other row that has an entry a place, none of them wrong
+  pub others : (w w′ : List ℕ) (row : Row) (r : Member) → questionWork h ≤ length w → length row ≡ h .arity → (WrongEntry h row → ⊥)
+      → (row ∈ rows → ⊥) → Members h table w row r w′ → r ≡ MemberIs.NotListed
   -- project marks exactly the nodes that stand there in some row of the list
   pub projects : (w w′ out out′ : List ℕ) (place : ℕ) (r : Projected) → questionWork h ≤ length w → isOpen h place ≡ true
       → h .nodes ≤ length out → Projects h table w place out r w′ out′

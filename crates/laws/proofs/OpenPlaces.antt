@@ -39,16 +39,6 @@ pub without-same-place : (b i : ℕ) → hasPlace (without b i) i ≡ false
 without-same-place b zero = ne-eqb (2 * (b / 2) % 2) 1 (λ e. omega arith)
 without-same-place b (suc i) = ap (λ (z : ℕ). hasPlace z i) (high-places b (without (b / 2) i)) ∙ without-same-place (b / 2) i
 
--- two places go in either order
-pub without-comm : (b i j : ℕ) → without (without b i) j ≡ without (without b j) i
-without-comm b zero zero = refl
-without-comm b zero (suc j) = omega (arith, ap (λ (z : ℕ). without z j) (without-low b))
-without-comm b (suc i) zero = omega (arith, ap (λ (z : ℕ). without z i) (without-low b))
-without-comm b (suc i) (suc j) =
-    let m = without (b / 2) i in
-    let n = without (b / 2) j in
-    omega (arith, ap (λ (z : ℕ). without z j) (high-places b m), ap (λ (z : ℕ). without z i) (high-places b n), without-comm (b / 2) i j)
-
 -- ---- open places
 -- an open place is at least 1
 pub open-from-one : (h : Head) (place : ℕ) → isOpen h place ≡ true → 1 ≤ place

@@ -82,19 +82,27 @@ module _ (h : Head) (table : List Record) (S : Sound h table) where
   asks workLength own work p =
       passes-append (askTests h table workLength) own (le-leb (questionWork h) workLength work, (is-sound h table S, tt)) p
 
-  -- a row of the listing has a row's length, and no wrong entry
-  fits-row : (workLength : ℕ) (row : Row) → questionWork h ≤ workLength → row ∈ listing h table → Passes (memberTests h table workLength row)
-  fits-row workLength row work m =
-      asks workLength ((13, eqb (length row) (h .arity)) ∷ (8, entriesFit h 0 row) ∷ []) work
-      (eq-eqb (length row) (h .arity) (listing-shaped row m .0), (passes-if-not (entries-row h row) (none-wrong row m), tt))
+  -- a row that has an entry a place, none of them wrong, is looked for
+  looks : (workLength : ℕ) (row : Row) → questionWork h ≤ workLength → length row ≡ h .arity → (WrongEntry h row → ⊥)
+      → member h table workLength row ≡ answer (isListed (listing h table) row)
+  looks workLength row work long right =
+      answers (memberTests h table workLength row) (isListed (listing h table) row)
+      (asks workLength ((13, eqb (length row) (h .arity)) ∷ (8, entriesFit h 0 row) ∷ []) work
+      (eq-eqb (length row) (h .arity) long, (passes-if-not (entries-row h row) right, tt)))
 
   -- ---- what it says
   member-says : (workLength : ℕ) → questionWork h ≤ workLength → (row : Row) → (member h table workLength row ≡ answer true) ↔ (row ∈ listing h table)
   member-says workLength work row = (
     λ e. listed-in (listing h table) row (answered (memberTests h table workLength row) e .1),
-    λ m. answers (memberTests h table workLength row) (isListed (listing h table) row) (fits-row workLength row work m)
-        ∙ ap answer (in-listed (listing h table) row m),
+    λ m. looks workLength row work (listing-shaped row m .0) (none-wrong row m) ∙ ap answer (in-listed (listing h table) row m),
   )
+
+  not-listed : (row : Row) → (row ∈ listing h table → ⊥) → isListed (listing h table) row ≡ false
+  not-listed row none = go (isListed (listing h table) row) refl
+    where
+      go : (c : Bool) → isListed (listing h table) row ≡ c → isListed (listing h table) row ≡ false
+      go true e = absurd (none (listed-in (listing h table) row e))
+      go false e = e
 
   marks-say : (place n : ℕ) → n < h .nodes → (getD (marksOf h table place) n 0 ≡ 1) ↔ StandsIn (place - 1) n (listing h table)
   marks-say place n below = (
@@ -117,6 +125,7 @@ module _ (h : Head) (table : List Record) (S : Sound h table) where
         (asks w ((9, ltb k (countOf h table)) ∷ (10, leb (h .arity) out) ∷ []) work
         (lt-ltb k (countOf h table) below, (le-leb (h .arity) out fits, tt)));
     members = member-says;
+    others = λ w work row long right none. looks w row work long right ∙ ap answer (not-listed row none);
     projects = λ w place out work is-open fits.
         answers (projectTests h table w place out) (marksOf h table place)
         (asks w ((7, isOpen h place) ∷ (10, leb (h .nodes) out) ∷ []) work (is-open, (le-leb (h .nodes) out fits, tt)));

@@ -1,7 +1,7 @@
 -- What it is for the questions on a set to say what a list of rows says.
 use mathlib.Core.Path.{_≡_}
 use mathlib.Core.Logic.{_↔_}
-use mathlib.Core.Bool.{true}
+use mathlib.Core.Bool.{true, false}
 use mathlib.Core.List.{List, []}
 use Prim.Native.Nat.{ℕ, _-_, _≤_, _<_}
 use lib.ListN.{length, getD}
@@ -10,6 +10,7 @@ use Rattle.paper.specs.Row.{Row, blank}
 use Rattle.paper.specs.Questions.{questionWork, marksOf}
 use Rattle.paper.specs.Refusals.{answer, isOpen, count, rowByNumber, member, project}
 use Rattle.laws.specs.Plain.{Record, Head}
+use Rattle.laws.specs.QuestionRows.{WrongEntry}
 
 -- some row of the list has the node at the index
 abbrev pub StandsIn : ℕ → ℕ → List Row → Type 0
@@ -24,6 +25,9 @@ pub record SaysTheRows (h : Head) (table : List Record) (rows : List Row) : Type
       → rowByNumber h table workLength k outLength ≡ answer (getD rows k [])
   -- member says yes exactly to the rows of the list, whatever row it is given
   pub members : (workLength : ℕ) → questionWork h ≤ workLength → (row : Row) → (member h table workLength row ≡ answer true) ↔ (row ∈ rows)
+  -- and no to every other row that has an entry a place, none of them wrong
+  pub others : (workLength : ℕ) → questionWork h ≤ workLength → (row : Row) → length row ≡ h .arity → (WrongEntry h row → ⊥) → (row ∈ rows → ⊥)
+      → member h table workLength row ≡ answer false
   -- project marks exactly the nodes that stand there in some row of the list
   pub projects : (workLength place outLength : ℕ) → questionWork h ≤ workLength → isOpen h place ≡ true → h .nodes ≤ outLength
       → project h table workLength place outLength ≡ answer (marksOf h table place)

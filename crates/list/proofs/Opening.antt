@@ -18,7 +18,7 @@ use Rattle.paper.specs.Answers.{numberOf, saysBuilt, saysCounted, saysWritten}
 use Rattle.list.specs.declared.handed.Handed.{Handed}
 use Rattle.list.specs.declared.page.Page.{Page}
 use Rattle.list.specs.Handing.{nothingHanded}
-use Rattle.list.specs.Page.{Facts, Lines, MakesRoom, Opens, Refuses, RowThere, ended, lined, opened, withRoom}
+use Rattle.list.specs.Page.{Facts, Lines, MakesRoom, Opens, Refuses, RowThere, ended, lined, withRoom}
 use Rattle.list.specs.Text.{Puts, lineText}
 use Rattle.list.proofs.Waiting.{room-failed, room-made}
 

@@ -28,8 +28,8 @@ pub(crate) fn has_failed(handed: Handed) -> bool
 }
 
 // Hands the next bytes of what the program tells of the input to standard output. The input is not read: the contract needs it, to say
-// whose text it is. The bytes are lent with `mut` and nothing is said of them afterwards, so that they are used up: no caller can hand
-// them on twice. A write that fails is told on standard error.
+// whose text it is. The bytes are lent with `mut` and nothing is said of them afterwards, so that they are used up: to hand them on
+// twice a caller would have to put them anew. A write that fails is told in a line on standard error.
 pub(crate) fn hand_on(descriptor: i32, input: &[u8], handed: Handed, bytes: &mut [u8]) -> Handed
     requires { ⌜ Due descriptor (now input) handed (now bytes) ⌝ }
     ensures { λ r. ⌜ r .bytes ≡ handed .bytes + length (now (bytes .entry)) ⌝ }

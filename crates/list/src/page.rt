@@ -17,6 +17,9 @@ use paper::Head;
 use paper::Refusal;
 use paper::Written;
 
+// A line has at most four entries, each with a space before it and at most 20 digits, and its end.
+const LONGEST_LINE: usize = 85;
+
 // `number` is the next row's, of so many rows with so many places. `handed` tells what was handed on, and the first `bytes` of the text
 // wait.
 pub(crate) struct Page {
@@ -107,7 +110,7 @@ fn make_room(input: &[u8], t: Page, text: &mut [u8]) -> Page
     requires { ⌜ Waits (now input) t (now text) ⌝ }
     ensures { λ r. ⌜ MakesRoom t (now (text .entry)) r (now (text .exit)) ⌝ }
 {
-    if text.len() - t.bytes >= 85 {
+    if text.len() - t.bytes >= LONGEST_LINE {
         return t;
     }
     pass_on(input, t, &mut *text)

@@ -1,5 +1,4 @@
 -- `page::pass_on` hands on what waits.
-use mathlib.Core.Path.{sym}
 use native.Mathlib.Omega.{arith}
 use borrow.Author.Needs.{needs}
 use lib.Seq.{length-take-le}
