@@ -29,7 +29,7 @@ typedef struct tarn_record {
 
 /* What stands where in a head, an array of six: nodes of the tree, arity, open places as a flag, records used, the set, and
  * the number of its record (0 where the set is none). */
-enum { TARN_NODES, TARN_ARITY, TARN_OPEN, TARN_USED, TARN_SET, TARN_RECORD, TARN_HEAD };
+enum { TARN_NODES, TARN_ARITY, TARN_OPEN_PLACES, TARN_USED, TARN_SET, TARN_RECORD, TARN_HEAD };
 
 /* The set in a head. A head with another number there is not sound. */
 enum { TARN_EMPTY = 0, TARN_UNIT = 1, TARN_AT_RECORD = 2 };

@@ -16,7 +16,7 @@ module tarnsatchel
   end type
 
   ! What stands where in a head, an array of six.
-  integer, parameter, public :: tarn_nodes = 1, tarn_arity = 2, tarn_open = 3, tarn_used = 4, tarn_set = 5, tarn_at = 6
+  integer, parameter, public :: tarn_nodes = 1, tarn_arity = 2, tarn_open_places = 3, tarn_used = 4, tarn_set = 5, tarn_at = 6
   ! The set in a head; tarn_at then has the record's number.
   integer, parameter, public :: tarn_empty = 0, tarn_unit = 1, tarn_a_record = 2
   ! The numbers that say no.

@@ -90,7 +90,7 @@ fn record([kind, node, left, right, flag]: [u16; 5]) -> Record {
 }
 
 fn head(nodes: u16, used: u16, set: Set) -> Head {
-    Head { nodes, arity: 2, open: 3, used, set }
+    Head { nodes, arity: 2, open_places: 3, used, set }
 }
 
 pub fn set_b() -> (Head, Vec<Record>) {
@@ -140,7 +140,7 @@ fn check_on_a(query: &[u8], arity: u16, made: &[[u16; 5]], expected: &[&[u16]]) 
     let input = [A, query].concat();
     let built = records::build(&input, &[GARBAGE; 99], &vec![Record::default(); made.len()]);
     let root = Set::At(made.len() as u16 - 1);
-    let head = Head { nodes: 3, arity, open: (1 << arity) - 1, used: made.len() as u16, set: root };
+    let head = Head { nodes: 3, arity, open_places: (1 << arity) - 1, used: made.len() as u16, set: root };
     same("head", built.answer, Ok(head))?;
     same("records", &built.lent, &made.iter().map(|&fields| record(fields)).collect())?;
     let mut expected: Vec<Row> = expected.iter().map(|row| row.to_vec()).collect();
@@ -248,7 +248,7 @@ pub fn fix(set: &(Head, Vec<Record>), place: u64, node: u64) -> Result<(Head, Ve
 
 fn p6() -> Verdict {
     let (head, table) = fix(&set_b(), 1, 0).map_err(|number| format!("refused {number}"))?;
-    same("open places", head.open, 2)?;
+    same("open places", head.open_places, 2)?;
     same("rows", rows(&head, &table), vec![vec![BLANK, 3], vec![BLANK, 1]])
 }
 
@@ -256,7 +256,7 @@ fn p7() -> Verdict {
     for [first, second] in [[(1, 0), (2, 3)], [(2, 3), (1, 0)]] {
         let fixed = fix(&set_b(), first.0, first.1).and_then(|set| fix(&set, second.0, second.1));
         let (head, table) = fixed.map_err(|number| format!("refused {number}"))?;
-        same("set", (head.set, head.open), (Set::Unit, 0))?;
+        same("set", (head.set, head.open_places), (Set::Unit, 0))?;
         same("rows", rows(&head, &table), vec![vec![BLANK, BLANK]])?;
     }
     Ok(())
@@ -295,7 +295,7 @@ pub fn unsound_sets() -> Vec<(&'static str, Head, Vec<Record>)> {
         ("4,096 nodes", |head| head.nodes = 4096),
         ("arity 0", |head| head.arity = 0),
         ("arity 5", |head| head.arity = 5),
-        ("open places beyond the arity", |head| head.open = 4),
+        ("open places beyond the arity", |head| head.open_places = 4),
         ("more used than the table has", |head| head.used = 14),
         ("a root that is not used", |head| head.set = Set::At(13)),
         ("a root with other places", |head| head.set = Set::At(11)),
@@ -337,7 +337,7 @@ fn most_rows() -> Verdict {
     for before in 0..48 {
         table.push(Record { kind: 2, node: 0, left: before, right: before, flag: 1 });
     }
-    let head = Head { nodes: 1, arity: 1, open: 1, used: 49, set: Set::At(0) };
+    let head = Head { nodes: 1, arity: 1, open_places: 1, used: 49, set: Set::At(0) };
     same("2 to the power of 48 rows", is_sound(&head, &table), true)?;
     table.push(Record { kind: 2, node: 0, left: 48, right: 0, flag: 1 });
     same("unused", is_sound(&head, &table), true)?;
@@ -368,8 +368,8 @@ fn order_of_refusals() -> Verdict {
 /// A single united with itself, under the root or not.
 pub fn uniting_units() -> [(Head, Vec<Record>); 2] {
     let table = vec![Record::single(0, 1), record([2, 0, 0, 0, 1]), Record::single(0, 2)];
-    let under_root = Head { nodes: 2, arity: 2, open: 1, used: 3, set: Set::At(1) };
-    let elsewhere = Head { open: 3, set: Set::Empty, ..under_root };
+    let under_root = Head { nodes: 2, arity: 2, open_places: 1, used: 3, set: Set::At(1) };
+    let elsewhere = Head { open_places: 3, set: Set::Empty, ..under_root };
     [under_root, elsewhere].map(|head| (head, table.clone()))
 }
 

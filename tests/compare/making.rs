@@ -51,7 +51,7 @@ impl Making {
 
     /// All records used, and the root's places open.
     pub fn set(&self, nodes: u16, arity: u16, root: u16) -> WholeSet {
-        let open = self.table[root as usize].flag;
-        WholeSet { head: [nodes, arity, open, self.table.len() as u16, 2, root], table: self.table.clone() }
+        let open_places = self.table[root as usize].flag;
+        WholeSet { head: [nodes, arity, open_places, self.table.len() as u16, 2, root], table: self.table.clone() }
     }
 }

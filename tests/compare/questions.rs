@@ -6,7 +6,7 @@ use crate::numbered::{Kinds, Numbered};
 use crate::random::Random;
 use crate::set_damage as damage;
 use crate::set_limits;
-use crate::sets::{built, by_hand, Rows, WholeSet, ARITY, NODES, OPEN};
+use crate::sets::{built, by_hand, Rows, WholeSet, ARITY, NODES, OPEN_PLACES};
 use crate::verdict::Verdict;
 use records::set::Row;
 use records::BLANK;
@@ -201,7 +201,7 @@ fn any_row(random: &mut Random, set: &WholeSet, rows: &Rows) -> Row {
 }
 
 fn any_entry(random: &mut Random, set: &WholeSet, at: u16) -> u16 {
-    if set.head[OPEN] >> at & 1 == 1 {
+    if set.head[OPEN_PLACES] >> at & 1 == 1 {
         random.below(set.head[NODES].max(1) as usize) as u16
     } else {
         BLANK

@@ -3,7 +3,7 @@
 use crate::garbage;
 use crate::making::Making;
 use crate::random::Random;
-use crate::sets::{WholeSet, ARITY, NODES, OPEN, RECORD, SET, USED};
+use crate::sets::{WholeSet, ARITY, NODES, OPEN_PLACES, RECORD, SET, USED};
 use records::Record;
 
 /// Numbers at which something ends.
@@ -29,7 +29,7 @@ pub fn any_head(random: &mut Random, set: &mut WholeSet) {
 }
 
 pub fn head_changed(random: &mut Random, set: &mut WholeSet) {
-    let at = random.pick(&[NODES, ARITY, OPEN, USED, RECORD]);
+    let at = random.pick(&[NODES, ARITY, OPEN_PLACES, USED, RECORD]);
     set.head[at] = near(random, set.head[at]);
 }
 
@@ -38,7 +38,7 @@ pub fn set_changed(random: &mut Random, set: &mut WholeSet) {
     set.head[SET] = random.pick(&[0, 1, 2, 3, 3, 4, 255, 256, 257, 258, 65_535]);
     set.head[RECORD] = random.pick(&[set.head[RECORD], 0, set.head[USED].wrapping_sub(1), set.head[USED], 65_535]);
     if random.chance(50) {
-        set.head[OPEN] = 0;
+        set.head[OPEN_PLACES] = 0;
     }
 }
 

@@ -7,7 +7,7 @@ use crate::garbage;
 use crate::making::Making;
 use crate::questions::{one_of_each, Asked};
 use crate::random::Random;
-use crate::sets::{numbers_of, WholeSet, ARITY, NODES, OPEN, RECORD, SET, USED};
+use crate::sets::{numbers_of, WholeSet, ARITY, NODES, OPEN_PLACES, RECORD, SET, USED};
 use crate::verdict::{same, Verdict};
 use records::questions;
 use records::{Head, Record, BLANK};
@@ -118,8 +118,8 @@ fn ask_large(random: &mut Random, set: &WholeSet) -> Vec<Asked> {
     askings.extend(numbers.map(|number| set.row(random, number)));
     // the nodes of the unions, of the products of two, and of four
     for row in [[0; 4], [1; 4], [2; 4], [0, 0, 1, 1], [1, 1, 0, 0], [1, 2, 4, 8], [1, 2, 4, 4]] {
-        let open = |place: usize| if set.head[OPEN] >> place & 1 == 1 { row[place] } else { BLANK };
-        askings.push(set.member(random, (0..4).map(open).collect()));
+        let entry = |place: usize| if set.head[OPEN_PLACES] >> place & 1 == 1 { row[place] } else { BLANK };
+        askings.push(set.member(random, (0..4).map(entry).collect()));
     }
     for place in 1..=4 {
         askings.push(set.project(random, place));
@@ -167,17 +167,17 @@ fn ask_long(random: &mut Random, set: &WholeSet) -> Vec<Asked> {
 
 fn no_record(limits: &mut Vec<Limit>) {
     for (nodes, arity) in [(1, 1), (4_095, 4), (4_095, 2), (0, 1), (4_096, 1), (1, 0), (1, 5)] {
-        for (set, open) in [(0, 0), (0, 1), (1, 0), (1, 1), (2, 0), (2, 1), (3, 0)] {
-            let head = [nodes, arity, open, 0, set, 0];
+        for (set, open_places) in [(0, 0), (0, 1), (1, 0), (1, 1), (2, 0), (2, 1), (3, 0)] {
+            let head = [nodes, arity, open_places, 0, set, 0];
             let right_head = (1..=4_095).contains(&nodes) && (1..=4).contains(&arity);
             let count = if right_head && set == 0 {
                 Ok(0)
-            } else if right_head && set == 1 && open == 0 {
+            } else if right_head && set == 1 && open_places == 0 {
                 Ok(1)
             } else {
                 Err(11)
             };
-            let set = WholeSet { head, table: vec![Record::single(0, 1); (open as usize + nodes as usize) % 2] };
+            let set = WholeSet { head, table: vec![Record::single(0, 1); (open_places as usize + nodes as usize) % 2] };
             limits.push(Limit { kind: "limit: no record used", set, ask: ask_each, count: Some(count) });
         }
     }

@@ -12,7 +12,7 @@ use std::rc::Rc;
 /// What stands where in a head.
 pub const NODES: usize = 0;
 pub const ARITY: usize = 1;
-pub const OPEN: usize = 2;
+pub const OPEN_PLACES: usize = 2;
 pub const USED: usize = 3;
 pub const SET: usize = 4;
 pub const RECORD: usize = 5;
@@ -36,20 +36,20 @@ pub fn numbers_of(head: &Head) -> [u16; 6] {
         Set::Unit => (1, 0),
         Set::At(record) => (2, record),
     };
-    [head.nodes, head.arity, head.open, head.used, set, record]
+    [head.nodes, head.arity, head.open_places, head.used, set, record]
 }
 
 impl WholeSet {
     /// A set that is none of the three has a record that no sound set has.
     pub fn head(&self) -> Head {
-        let [nodes, arity, open, used, set, record] = self.head;
+        let [nodes, arity, open_places, used, set, record] = self.head;
         let set = match set {
             0 => Set::Empty,
             1 => Set::Unit,
             2 => Set::At(record),
             _ => Set::At(u16::MAX),
         };
-        Head { nodes, arity, open, used, set }
+        Head { nodes, arity, open_places, used, set }
     }
 
     pub fn rows(&self) -> Rows {
@@ -61,7 +61,7 @@ impl WholeSet {
 
     /// From 1, as the calls have them.
     pub fn open_places(&self) -> Vec<u16> {
-        (1..=4).filter(|place| self.head[OPEN] >> (place - 1) & 1 == 1).collect()
+        (1..=4).filter(|place| self.head[OPEN_PLACES] >> (place - 1) & 1 == 1).collect()
     }
 }
 

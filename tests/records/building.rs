@@ -53,7 +53,7 @@ fn make(stream: &Stream, most: usize) -> Result<(Head, Vec<Record>), u8> {
     let head = Head {
         nodes: stream.tree.len() as u16,
         arity: stream.query.arity as u16,
-        open: (1 << stream.query.arity) - 1,
+        open_places: (1 << stream.query.arity) - 1,
         used: building.records.len() as u16,
         set,
     };

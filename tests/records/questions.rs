@@ -40,7 +40,7 @@ impl Asked<'_> {
         self.may_be_asked()?;
         refuse_unless(13, row.len() == self.head.arity as usize)?;
         let fits = |place: usize, node: u16| {
-            if self.head.open >> place & 1 == 1 {
+            if self.head.open_places >> place & 1 == 1 {
                 node < self.head.nodes
             } else {
                 node == BLANK
@@ -87,7 +87,7 @@ impl Asked<'_> {
 
     /// The place is 1 to the arity, and open.
     fn is_open(&self, place: u64) -> bool {
-        1 <= place && place <= self.head.arity as u64 && self.head.open >> (place - 1) & 1 == 1
+        1 <= place && place <= self.head.arity as u64 && self.head.open_places >> (place - 1) & 1 == 1
     }
 
     fn after<A, L>(&self, answer: Result<A, u8>, lent: L) -> After<A, L> {
@@ -114,7 +114,7 @@ fn fixed_set(head: &Head, table: &[Record], place: u16, node: u16) -> Result<(He
         Set::At(root) => fixing.images[root as usize],
         other => other,
     };
-    Ok((Head { open: head.open & !fixing.bit, used: fixing.records.len() as u16, set, ..*head }, fixing.records))
+    Ok((Head { open_places: head.open_places & !fixing.bit, used: fixing.records.len() as u16, set, ..*head }, fixing.records))
 }
 
 struct Fixing {

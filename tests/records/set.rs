@@ -28,12 +28,12 @@ pub enum Set {
     At(u16),
 }
 
-/// `open` is the open places as a flag.
+/// `open_places` is a flag.
 #[derive(Clone, Copy, Debug, PartialEq)]
 pub struct Head {
     pub nodes: u16,
     pub arity: u16,
-    pub open: u16,
+    pub open_places: u16,
     pub used: u16,
     pub set: Set,
 }
@@ -59,7 +59,7 @@ pub fn is_sound(head: &Head, table: &[Record]) -> bool {
 fn head_is_sound(head: &Head, length: usize) -> bool {
     (1..=MOST_NODES).contains(&head.nodes)
         && (1..=4).contains(&head.arity)
-        && head.open < 1 << head.arity
+        && head.open_places < 1 << head.arity
         && head.used as usize <= MOST_RECORDS.min(length)
 }
 
@@ -106,8 +106,8 @@ fn operands_are_sound(before: &[Record], record: &Record) -> bool {
 fn root_is_sound(head: &Head, table: &[Record]) -> bool {
     match head.set {
         Set::Empty => true,
-        Set::Unit => head.open == 0,
-        Set::At(root) => root < head.used && table[root as usize].flag == head.open,
+        Set::Unit => head.open_places == 0,
+        Set::At(root) => root < head.used && table[root as usize].flag == head.open_places,
     }
 }
 

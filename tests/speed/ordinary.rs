@@ -193,7 +193,7 @@ pub fn build(input: &[u8]) -> Built {
     let mut building = Building { query, node: 0, records: Vec::new() };
     let set = building.tree(&tree);
     let records = building.records;
-    Built { head: Head { nodes, arity, open: (1 << arity) - 1, used: records.len() as u16, set }, records }
+    Built { head: Head { nodes, arity, open_places: (1 << arity) - 1, used: records.len() as u16, set }, records }
 }
 
 #[inline(never)]
@@ -317,7 +317,7 @@ pub fn fix(built: &Built, place: u16, node: u16) -> Built {
         Set::Record(root) => images[root as usize],
         other => other,
     };
-    Built { head: Head { open: built.head.open & !bit, used: records.len() as u16, set, ..built.head }, records }
+    Built { head: Head { open_places: built.head.open_places & !bit, used: records.len() as u16, set, ..built.head }, records }
 }
 
 fn fixed_single(records: &mut Vec<Record>, old: &Record, bit: u16, node: u16) -> Set {

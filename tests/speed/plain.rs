@@ -20,7 +20,7 @@ fn weigh(head: &Head, table: &[Record], work: &mut [u64]) -> Result<(), u8> {
 }
 
 fn is_sound(head: &Head, table: &[Record], counts: &mut [u64]) -> bool {
-    let in_range = (1..=4095).contains(&head.nodes) && (1..=4).contains(&head.arity) && head.open < 1 << head.arity;
+    let in_range = (1..=4095).contains(&head.nodes) && (1..=4).contains(&head.arity) && head.open_places < 1 << head.arity;
     if !in_range || counts.len() > 60_000 || counts.len() > table.len() {
         return false;
     }
@@ -33,8 +33,8 @@ fn is_sound(head: &Head, table: &[Record], counts: &mut [u64]) -> bool {
     }
     match head.set {
         Set::Empty => true,
-        Set::Unit => head.open == 0,
-        Set::Record(root) => table.get(root as usize).is_some_and(|record| record.flag == head.open),
+        Set::Unit => head.open_places == 0,
+        Set::Record(root) => table.get(root as usize).is_some_and(|record| record.flag == head.open_places),
     }
 }
 
@@ -87,7 +87,7 @@ fn cleared<A>(head: &Head, work: &mut [u64], answer: Result<A, u8>) -> Result<A,
 }
 
 fn is_open(head: &Head, place: u16) -> bool {
-    1 <= place && place <= head.arity && head.open >> (place - 1) & 1 == 1
+    1 <= place && place <= head.arity && head.open_places >> (place - 1) & 1 == 1
 }
 
 #[inline(never)]
@@ -119,7 +119,7 @@ pub fn member(head: &Head, table: &[Record], work: &mut [u64], row: &[u16]) -> R
     if row.len() != head.arity as usize {
         return cleared(head, work, Err(13));
     }
-    let fits = |(place, &node): (usize, &u16)| if head.open >> place & 1 == 1 { node < head.nodes } else { node == BLANK };
+    let fits = |(place, &node): (usize, &u16)| if head.open_places >> place & 1 == 1 { node < head.nodes } else { node == BLANK };
     if !row.iter().enumerate().all(fits) {
         return cleared(head, work, Err(8));
     }
@@ -185,7 +185,7 @@ pub fn fix(head: &Head, source: &[Record], work: &mut [u64], place: u16, node: u
         Set::Record(root) => set_of(work[root as usize]),
         other => other,
     };
-    cleared(head, work, Ok(Head { open: head.open & !bit, used: made, set, ..*head }))
+    cleared(head, work, Ok(Head { open_places: head.open_places & !bit, used: made, set, ..*head }))
 }
 
 fn set_of(image: u64) -> Set {

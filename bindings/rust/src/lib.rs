@@ -22,7 +22,7 @@ pub struct Record {
 pub struct Head {
     pub nodes: u16,
     pub arity: u16,
-    pub open: u16,
+    pub open_places: u16,
     pub used: u16,
     pub set: Set,
 }
@@ -129,16 +129,16 @@ impl Head {
             Set::Unit => (1, 0),
             Set::Record(record) => (2, record),
         };
-        [self.nodes, self.arity, self.open, self.used, set, record]
+        [self.nodes, self.arity, self.open_places, self.used, set, record]
     }
 
-    fn of_numbers([nodes, arity, open, used, set, record]: [u16; 6]) -> Head {
+    fn of_numbers([nodes, arity, open_places, used, set, record]: [u16; 6]) -> Head {
         let set = match set {
             0 => Set::Empty,
             1 => Set::Unit,
             _ => Set::Record(record),
         };
-        Head { nodes, arity, open, used, set }
+        Head { nodes, arity, open_places, used, set }
     }
 }
 

@@ -1,5 +1,5 @@
 -- Demand 2 of the functions: what count, row by number, member and project answer of a set that `build` left, from the bytes handed to
--- it. That a row stands in the set exactly if it is accepted, and once, is `build-right` (crate `build`); here the questions say the same.
+-- it. That a row stands in the set exactly if it is accepted, and once, is `build-right` (crate `building`); here the questions say the same.
 -- First any set whose definitions say what a list of rows says, then one that `build` left.
 use mathlib.Core.Bool.{true}
 use mathlib.Core.List.{List, []}
@@ -24,13 +24,13 @@ use Rattle.paper.specs.Records.{listing}
 use Rattle.paper.specs.Refusals.{Reply, answer, isOpen, outputAfter, over}
 use Rattle.paper.specs.Row.{Row}
 use Rattle.laws.specs.Built.{BuiltSet, InAnswer, SaysTheAnswer, Stood}
-use Rattle.laws.specs.QuestionRows.{WrongEntry}
+use Rattle.laws.specs.QuestionCauses.{WrongEntry}
 use Rattle.laws.specs.Said.{SaysTheRows}
 use Rattle.laws.proofs.Answers.{one-counted, one-member, one-projected, one-written}
 use Rattle.laws.proofs.BuiltSets.{built-good, built-right}
 use Rattle.laws.proofs.SoundAnswers.{sound-says}
-use Rattle.build.specs.Face.{Builds}
-use Rattle.build.proofs.BuildRight.{is-built}
+use Rattle.building.specs.Face.{Builds}
+use Rattle.building.proofs.BuildRight.{is-built}
 use Rattle.member.specs.Face.{Members}
 use Rattle.project.specs.Face.{Projects}
 use Rattle.row.specs.Face.{Numbers}

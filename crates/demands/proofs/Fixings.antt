@@ -25,8 +25,8 @@ use Rattle.laws.proofs.FixingsRight.{built-allowed, first-enough, fixings-right
 use Rattle.laws.proofs.Lists.{here}
 use Rattle.laws.proofs.Narrowing.{narrowed-order}
 use Rattle.laws.proofs.OpenPlaces.{allowed-rest}
-use Rattle.build.specs.Face.{Builds}
-use Rattle.build.proofs.BuildRight.{is-built}
+use Rattle.building.specs.Face.{Builds}
+use Rattle.building.proofs.BuildRight.{is-built}
 use Rattle.fix.specs.Face.{Fixes}
 use Rattle.demands.specs.Calls.{Call, Made, Narrows, fixingsIn, following, lastSet}
 

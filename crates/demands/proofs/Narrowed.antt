@@ -24,14 +24,14 @@ use Rattle.paper.specs.Refusals.{answer, isOpen, over}
 use Rattle.paper.specs.Row.{Row, blank}
 use Rattle.laws.specs.Built.{InAnswer}
 use Rattle.laws.specs.Fixings.{DifferentPlaces, FixedFrom, LeftOf, asUsed, narrowed}
-use Rattle.laws.specs.QuestionRows.{WrongEntry}
+use Rattle.laws.specs.QuestionCauses.{WrongEntry}
 use Rattle.laws.specs.Said.{SaysTheRows}
 use Rattle.laws.proofs.BuiltSets.{built-open}
 use Rattle.laws.proofs.Narrowing.{mem-narrowed}
 use Rattle.laws.proofs.Replies.{answer-inj}
 use Rattle.laws.proofs.SoundAnswers.{sound-says}
-use Rattle.build.specs.Face.{Builds}
-use Rattle.build.proofs.BuildRight.{build-right, is-built}
+use Rattle.building.specs.Face.{Builds}
+use Rattle.building.proofs.BuildRight.{build-right, is-built}
 use Rattle.member.specs.Face.{Members}
 use Rattle.project.specs.Face.{Projects}
 use Rattle.row.specs.Face.{Numbers}

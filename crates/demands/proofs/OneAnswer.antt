@@ -1,5 +1,5 @@
 -- The contracts of the questions leave no freedom: two results that one allows for one input are equal, in the answer and in every lent
--- buffer, refusals too. First the pass that all of them begin with. (`one-build` stands in crate `build`, those of the readers in `stream`.)
+-- buffer, refusals too. First the pass that all of them begin with. (`one-build` stands in crate `building`, those of the readers in `stream`.)
 use mathlib.Core.List.{List}
 use mathlib.Core.Path.{_∙_, _≡_, ap, refl, sym}
 use Prim.Native.Nat.{ℕ}

@@ -1,5 +1,5 @@
 -- Demand 1 of the functions: a call, known by its contract alone, returns a number exactly if that is the first in the paper's order
--- whose row of the table applies, and answers exactly if no row does. First one law for every answer enum, then the six functions.
+-- whose cause applies, and answers exactly if no cause does. First one law for every answer enum, then the six functions.
 use mathlib.Core.List.{List}
 use mathlib.Core.Logic.{Iff·trans, _↔_, _⊎_, inl, inr, ⊎-elim}
 use mathlib.Core.Path.{_∙_, _≡_, ap, refl, sym}
@@ -24,12 +24,12 @@ use Rattle.paper.specs.Answers.{numberOf, saysBuilt, saysCounted, saysFixed, sa
 use Rattle.paper.specs.Refusals.{Reply, Test, answer, askTests, buildTests, fixTests, memberTests, projectTests, refused, rowTests, unless}
 use Rattle.paper.specs.Row.{Row}
 use Rattle.laws.specs.First.{FirstOf, NoneOf}
-use Rattle.laws.specs.QuestionRows.{CountRow, FixRow, MemberRow, NumberRow, ProjectRow}
-use Rattle.laws.specs.StreamRows.{BuildRow, StreamFine, StreamRefused, buildOrder}
+use Rattle.laws.specs.QuestionCauses.{CountCause, FixCause, MemberCause, NumberCause, ProjectCause}
+use Rattle.laws.specs.StreamCauses.{BuildCause, StreamFine, StreamRefused, buildOrder}
 use Rattle.laws.proofs.QuestionRefusals.{count-answers, count-refused, fix-answers, fix-refused, member-answers, member-refused, project-answers, project-refused, rowByNumber-answers, rowByNumber-refused}
 use Rattle.laws.proofs.Replies.{answered, refused-inj, refused-not-answer}
 use Rattle.laws.proofs.StreamRefusals.{build-answers, build-refused}
-use Rattle.build.specs.Face.{Builds}
+use Rattle.building.specs.Face.{Builds}
 use Rattle.fix.specs.Face.{Fixes}
 use Rattle.member.specs.Face.{Members}
 use Rattle.project.specs.Face.{Projects}
@@ -89,8 +89,8 @@ built-cases (BuiltIs.Refused why) = inl (why, refl)
 
 pub build-exact : (input work work′ : List ℕ) (table table′ : List Record) (r : Built) → Builds input work table r work′ table′
     → Exact BuiltIs.Refused r
-    (λ n. StreamRefused input n ⊎ (StreamFine input × FirstOf buildOrder (BuildRow input (length work) (length table)) n))
-    (StreamFine input × NoneOf buildOrder (BuildRow input (length work) (length table)))
+    (λ n. StreamRefused input n ⊎ (StreamFine input × FirstOf buildOrder (BuildCause input (length work) (length table)) n))
+    (StreamFine input × NoneOf buildOrder (BuildCause input (length work) (length table)))
 build-exact input work work′ table table′ r c =
     exact BuiltIs.Refused saysBuilt (λ why. refl) built-cases (λ a. a .0) (buildTests input (length work) (length table)) _ r (c .answer)
     (build-refused input (length work) (length table)) (build-answers input (length work) (length table))
@@ -119,31 +119,31 @@ fixed-cases (FixedIs.Refused why) = inl (why, refl)
 
 module _ (h : Head) (table : List Record) (work work′ : List ℕ) where
   pub count-exact : (r : Counted) → Counts h table work r work′
-      → ExactQuestion CountedIs.Refused r (CountRow h table (length work))
+      → ExactQuestion CountedIs.Refused r (CountCause h table (length work))
   count-exact r c =
       exact CountedIs.Refused saysCounted (λ why. refl) counted-cases (λ a. a) (askTests h table (length work)) _ r (c .answer ∙ told-same _)
       (count-refused h table (length work)) (count-answers h table (length work))
 
   pub row-exact : (k : ℕ) (out out′ : List ℕ) (r : Written) → Numbers h table work k out r work′ out′
-      → ExactQuestion WrittenIs.Refused r (NumberRow h table (length work) k (length out))
+      → ExactQuestion WrittenIs.Refused r (NumberCause h table (length work) k (length out))
   row-exact k out out′ r c =
       exact WrittenIs.Refused saysWritten (λ why. refl) written-cases (λ a. tt) (rowTests h table (length work) k (length out)) _ r (c .answer)
       (rowByNumber-refused h table (length work) k (length out)) (rowByNumber-answers h table (length work) k (length out))
 
   pub member-exact : (row : Row) (r : Member) → Members h table work row r work′
-      → ExactQuestion MemberIs.Refused r (MemberRow h table (length work) row)
+      → ExactQuestion MemberIs.Refused r (MemberCause h table (length work) row)
   member-exact row r c =
       exact MemberIs.Refused saysMember (λ why. refl) member-cases (λ a. a) (memberTests h table (length work) row) _ r (c .answer ∙ told-same _)
       (member-refused h table (length work) row) (member-answers h table (length work) row)
 
   pub project-exact : (place : ℕ) (out out′ : List ℕ) (r : Projected) → Projects h table work place out r work′ out′
-      → ExactQuestion ProjectedIs.Refused r (ProjectRow h table (length work) place (length out))
+      → ExactQuestion ProjectedIs.Refused r (ProjectCause h table (length work) place (length out))
   project-exact place out out′ r c =
       exact ProjectedIs.Refused saysProjected (λ why. refl) projected-cases (λ a. tt) (projectTests h table (length work) place (length out)) _ r (c .answer)
       (project-refused h table (length work) place (length out)) (project-answers h table (length work) place (length out))
 
   pub fix-exact : (place node : ℕ) (target target′ : List Record) (r : Fixed) → Fixes h table work place node target r work′ target′
-      → ExactQuestion FixedIs.Refused r (FixRow h table (length work) place node (length target))
+      → ExactQuestion FixedIs.Refused r (FixCause h table (length work) place node (length target))
   fix-exact place node target target′ r c =
       exact FixedIs.Refused saysFixed (λ why. refl) fixed-cases (λ a. a .0) (fixTests h table (length work) place node (length target)) _ r (c .answer)
       (fix-refused h table (length work) place node (length target)) (fix-answers h table (length work) place node (length target))

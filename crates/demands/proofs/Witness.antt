@@ -23,8 +23,8 @@ use Rattle.laws.specs.Fixings.{DifferentPlaces, Fixing, GoodSet, asUsed}
 use Rattle.laws.proofs.BuiltSets.{built-good}
 use Rattle.laws.proofs.FixGood.{fix-accepted, fix-good}
 use Rattle.laws.proofs.Lists.{only}
-use Rattle.build.specs.Face.{Builds}
-use Rattle.build.proofs.BuildRight.{is-built}
+use Rattle.building.specs.Face.{Builds}
+use Rattle.building.proofs.BuildRight.{is-built}
 use Rattle.fix.specs.Face.{Fixes}
 use Rattle.sound.specs.Face.{Counts}
 use Rattle.demands.specs.Calls.{Call, Made, fixingsIn}

@@ -19,7 +19,7 @@ use Rattle.paper.specs.Lists.{_∈_}
 use Rattle.paper.specs.Questions.{marksOf, questionWork}
 use Rattle.paper.specs.Refusals.{isOpen, over}
 use Rattle.paper.specs.Row.{Row}
-use Rattle.laws.specs.QuestionRows.{WrongEntry}
+use Rattle.laws.specs.QuestionCauses.{WrongEntry}
 use Rattle.laws.specs.Said.{StandsIn}
 use Rattle.member.specs.Face.{Members}
 use Rattle.project.specs.Face.{Projects}

@@ -5,7 +5,7 @@ use Prim.Native.Nat.{ℕ}
 use Rattle.paper.specs.declared.Refusal.{Refusal}
 use Rattle.paper.specs.Answers.{numberOf}
 use Rattle.laws.specs.First.{FirstOf, NoneOf}
-use Rattle.laws.specs.QuestionRows.{questionOrder}
+use Rattle.laws.specs.QuestionCauses.{questionOrder}
 
 module _ {Result : Type 0} (Refused : Refusal → Result) where
   -- the result is a refusal with this number
@@ -16,11 +16,11 @@ module _ {Result : Type 0} (Refused : Refusal → Result) where
   abbrev pub Answered : Result → Type 0
   Answered r = (why : Refusal) → r ≡ Refused why → ⊥
 
-  -- the call returned a number exactly if that is the first whose row applies, and an answer exactly if no row does
+  -- the call returned a number exactly if that is the first whose cause applies, and an answer exactly if no cause does
   pub record Exact (r : Result) (First : ℕ → Type 0) (None : Type 0) : Type 0 where
     pub returns : (n : ℕ) → Returns r n ↔ First n
     pub answers : Answered r ↔ None
 
-  -- the same of a question, whose rows of the table are given
+  -- the same of a question, whose causes are given
   abbrev pub ExactQuestion : Result → (ℕ → Type 0) → Type 0
-  ExactQuestion r Row = Exact r (FirstOf questionOrder Row) (NoneOf questionOrder Row)
+  ExactQuestion r Cause = Exact r (FirstOf questionOrder Cause) (NoneOf questionOrder Cause)

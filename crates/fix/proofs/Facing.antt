@@ -20,7 +20,7 @@ use Rattle.paper.specs.Questions.{fixedSet, imageOf, imagesOf, questionWork, un
 use Rattle.paper.specs.Records.{blankEntry, usedOf}
 use Rattle.paper.specs.Refusals.{Reply, Test, answer, fix, isOpen, over, refused, targetAfter, unless, workAfter}
 use Rattle.paper.specs.Sound.{entry}
-use Rattle.laws.specs.QuestionRows.{IsProduct, IsSingle, IsUnion, SetFits, Sound, UnitTwice}
+use Rattle.laws.specs.QuestionCauses.{IsProduct, IsSingle, IsUnion, SetFits, Sound, UnitTwice}
 use Rattle.laws.proofs.OpenPlaces.{open-from-one}
 use Rattle.laws.proofs.QuestionRefusals.{unit-twice-row}
 use Rattle.laws.proofs.Tests.{passes-if-not}
@@ -345,7 +345,7 @@ module _ (h : Head) (source : List Record) (work : List ℕ) (place n : ℕ) (ta
       heads = λ j. record {
         nodes = h .nodes;
         arity = h .arity;
-        places = without (h .places) (known .done .place j - 1);
+        open_places = without (h .open_places) (known .done .place j - 1);
         used = known .done .made j;
         set = new-set j;
       }

@@ -14,6 +14,6 @@ module _ (t : State) (h : Head) (work : List ℕ) where
   pub refuses : t .refused ≡ true → FixedIs.Refused (t .refusal) ≡ answerAfter t h work
   refuses e = rw e
 
-  pub answers : t .refused ≡ false → {places : ℕ} {set : Set} → places ≡ without (h .places) (t .place - 1) → set ≡ setAfter work (h .set)
-      → FixedIs.Set (record { nodes = h .nodes; arity = h .arity; places = places; used = t .made; set = set }) ≡ answerAfter t h work
-  answers e p s = (λ i. FixedIs.Set (record { nodes = h .nodes; arity = h .arity; places = p i; used = t .made; set = s i })) ∙ rw e
+  pub answers : t .refused ≡ false → {places : ℕ} {set : Set} → places ≡ without (h .open_places) (t .place - 1) → set ≡ setAfter work (h .set)
+      → FixedIs.Set (record { nodes = h .nodes; arity = h .arity; open_places = places; used = t .made; set = set }) ≡ answerAfter t h work
+  answers e p s = (λ i. FixedIs.Set (record { nodes = h .nodes; arity = h .arity; open_places = p i; used = t .made; set = s i })) ∙ rw e

@@ -1,7 +1,7 @@
 -- The struct `State`, as the laws of `table` take a state: its field `going`, which record comes next, and where the batch goes and how
 -- many records it has.
 use mathlib.Core.Path.{refl}
-use Rattle.table.proofs.States.{Shape, Field}
+use Rattle.walks.proofs.States.{Shape, Field}
 use Rattle.fix.proofs.state.State as S
 use Rattle.fix.proofs.state.State.Laws as S′
 

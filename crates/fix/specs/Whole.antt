@@ -46,7 +46,7 @@ abbrev pub headAfter : State → Head → List ℕ → Head
 headAfter t h work = record {
   nodes = h .nodes;
   arity = h .arity;
-  places = without (h .places) (t .place - 1);
+  open_places = without (h .open_places) (t .place - 1);
   used = t .made;
   set = setAfter work (h .set);
 }

@@ -105,11 +105,11 @@ fn answer(t: State, head: Head, work: &[u64]) -> Fixed
     }
     let old = head.set;
     let set = new_set(old, work);
-    let places = without_place(head.places, (t.place - 1) as usize);
+    let places = without_place(head.open_places, (t.place - 1) as usize);
     Fixed::Set(Head {
         nodes: head.nodes,
         arity: head.arity,
-        places: places,
+        open_places: places,
         used: t.made as u16,
         set: set,
     })

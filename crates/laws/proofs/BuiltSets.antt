@@ -83,7 +83,7 @@ module _ (input : List ℕ) (workLength tableLength : ℕ) (passes : Passes (bui
         few-nodes = read-tree .2;
         some-places = read-query .some-places;
         few-places = read-query .few-places;
-        open-places = omega (arith, pow-pos arity);
+        open-below = omega (arith, pow-pos arity);
         sound = records-sound Q det ok t (nodesIn input) (read-tree .0) (read-tree .2);
         once = records-once Q det ok t (nodesIn input) (read-tree .0) (read-tree .2);
         stands = records-right Q det ok t (nodesIn input) (read-tree .0) (read-tree .2);
@@ -126,7 +126,7 @@ module _ (input : List ℕ) (h : Head) (table : List Record) (B : BuiltSet input
   -- every place from 1 to the arity is open
   pub built-open : (place : ℕ) → 1 ≤ place → place ≤ h .arity → isOpen h place ≡ true
   built-open place from to =
-      let all : h .places ≡ allPlaces (h .arity) = subst (λ (x : Head). x .places ≡ allPlaces (x .arity)) (built-is .0) refl in
+      let all : h .open_places ≡ allPlaces (h .arity) = subst (λ (x : Head). x .open_places ≡ allPlaces (x .arity)) (built-is .0) refl in
       rw (le-leb 1 place from, le-leb place (h .arity) to, all) (all-places (h .arity) (place - 1) (omega arith))
 
   -- the records made are no more than the paper's bound

@@ -18,20 +18,20 @@ use Rattle.paper.specs.Row.{Row}
 use Rattle.paper.specs.Sound.{entry, sound}
 use Rattle.laws.specs.Fixings.{GoodSet, picked}
 use Rattle.laws.specs.Plain.{Head, Record, Set, at, empty, unit}
-use Rattle.laws.specs.QuestionRows.{IsUnion, SetFits, SoundAt, UnitTwice}
+use Rattle.laws.specs.QuestionCauses.{IsUnion, SetFits, SoundAt, UnitTwice}
 use Rattle.laws.proofs.Bits.{no-places, without-lt}
 use Rattle.laws.proofs.Bound.{one-product, one-single, one-union}
 use Rattle.laws.proofs.GoodSets.{HeadOver, good-number, good-once, good-sound, over-good, over-length, over-lists, used-over}
 use Rattle.laws.proofs.Images.{Images, images-stand, wanted, wanted-append, wanted-once}
 use Rattle.laws.proofs.Listings.{listings-at, listings-first}
 use Rattle.laws.proofs.Lists.{both-true}
-use Rattle.laws.proofs.QuestionRefusals.{unit-twice-row}
+use Rattle.laws.proofs.QuestionRefusals.{unit-twice-cause}
 use Rattle.laws.proofs.Replies.{answers}
 use Rattle.laws.proofs.Shaped.{shaped-all, union-rows}
 use Rattle.laws.proofs.SoundRecords.{SoundFrom}
 use Rattle.laws.proofs.SoundTest.{is-sound}
 use Rattle.laws.proofs.Stands.{OnceFrom, Stands, not-unit-twice}
-use Rattle.laws.proofs.TestedRows.{fits}
+use Rattle.laws.proofs.TestedCauses.{fits}
 use Rattle.laws.proofs.Tests.{passes-if-not}
 
 -- ---- a fixing makes at most one record for each
@@ -77,11 +77,11 @@ module _ (h : Head) (table : List Record) (G : GoodSet h table) (place n : ℕ) 
   abbrev images : List Set
   images = (imagesOf p n used) .1
 
-  from-one : (leb 1 place ≡ true) × (leb place (h .arity) && hasPlace (h .places) p ≡ true)
-  from-one = both-true (leb 1 place) (leb place (h .arity) && hasPlace (h .places) p) is-open
+  from-one : (leb 1 place ≡ true) × (leb place (h .arity) && hasPlace (h .open_places) p ≡ true)
+  from-one = both-true (leb 1 place) (leb place (h .arity) && hasPlace (h .open_places) p) is-open
 
-  there : (leb place (h .arity) ≡ true) × (hasPlace (h .places) p ≡ true)
-  there = both-true (leb place (h .arity)) (hasPlace (h .places) p) (from-one .1)
+  there : (leb place (h .arity) ≡ true) × (hasPlace (h .open_places) p ≡ true)
+  there = both-true (leb place (h .arity)) (hasPlace (h .open_places) p) (from-one .1)
 
   in-arity : p < h .arity
   in-arity = omega (arith, leb-true 1 place (from-one .0), leb-true place (h .arity) (there .0))
@@ -100,14 +100,14 @@ module _ (h : Head) (table : List Record) (G : GoodSet h table) (place n : ℕ) 
 
   -- the new set stands for the picked rows
   set-stands : (e : Set) → SetFits h used e
-      → Stands (h .arity) (without (h .places) p) written (imageOf images e) (picked p n (setRows (h .arity) (listings (h .arity) used) e))
+      → Stands (h .arity) (without (h .open_places) p) written (imageOf images e) (picked p n (setRows (h .arity) (listings (h .arity) used) e))
   set-stands empty w = record { lists = refl; valid = refl; shape = λ row m. absurd (List·Memᴰ·not-nil m); once = tt }
   set-stands unit w = absurd (false≢true (sym (no-places p) ∙ ap (λ (b : ℕ). hasPlace b p) (sym w) ∙ there .1))
   set-stands (at i) w =
       let rows = getD (listings (h .arity) used) i [] in
       let s = I .stand i (omega (arith, w .0, good-number h table G)) in
       let s′ = subst (λ (b : ℕ). Stands (h .arity) (without b p) written (getD images i empty) (cond (hasPlace b p) (picked p n rows) rows)) (w .1) s in
-      subst (λ (c : Bool). Stands (h .arity) (without (h .places) p) written (getD images i empty) (cond c (picked p n rows) rows)) (there .1) s′
+      subst (λ (c : Bool). Stands (h .arity) (without (h .open_places) p) written (getD images i empty) (cond c (picked p n rows) rows)) (there .1) s′
 
   -- no more records than before
   pub fix-shrinks : new .used ≤ h .used
@@ -123,7 +123,7 @@ module _ (h : Head) (table : List Record) (G : GoodSet h table) (place n : ℕ) 
     few-nodes = few;
     some-places = G .sound .some-places;
     few-places = G .sound .few-places;
-    open-places = without-lt (h .arity) p (h .places) (G .sound .open-places);
+    open-below = without-lt (h .arity) p (h .open_places) (G .sound .open-below);
     sound = written-sound;
     once = written-once;
     stands = set-stands (h .set) (G .sound .set);
@@ -195,7 +195,7 @@ module _ (h : Head) (table : List Record) (G : GoodSet h table) (place n : ℕ) 
               (
                 le-leb (h .used) targetLength target,
                 (
-                  passes-if-not (unit-twice-row h table place n) never-unit-twice,
+                  passes-if-not (unit-twice-cause h table place n) never-unit-twice,
                   tt,
                 ),
               ),

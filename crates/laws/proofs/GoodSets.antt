@@ -13,7 +13,7 @@ use Rattle.paper.specs.Row.{Row}
 use Rattle.paper.specs.Sound.{entry, mostRows}
 use Rattle.laws.specs.Fixings.{GoodSet}
 use Rattle.laws.specs.Plain.{Head, Record, Set, at, empty, unit}
-use Rattle.laws.specs.QuestionRows.{SetFits, SoundAt}
+use Rattle.laws.specs.QuestionCauses.{SetFits, SoundAt}
 use Rattle.laws.proofs.Counting.{within-most-rows}
 use Rattle.laws.proofs.Shaped.{all-once, once-all, shaped-all}
 use Rattle.laws.proofs.Shapes.{shape-few}
@@ -37,13 +37,13 @@ pub record HeadOver (h : Head) (table used : List Record) (rows : List Row) : Ty
   pub few-nodes : h .nodes ≤ 4095
   pub some-places : 1 ≤ h .arity
   pub few-places : h .arity ≤ 4
-  pub open-places : h .places < 2 ^ h .arity
+  pub open-below : h .open_places < 2 ^ h .arity
   pub sound : SoundFrom (h .arity) (h .nodes) [] used
   pub once : OnceFrom (h .arity) [] used
-  pub stands : Stands (h .arity) (h .places) used (h .set) rows
+  pub stands : Stands (h .arity) (h .open_places) used (h .set) rows
 
 module _ (h : Head) (table used : List Record) (rows : List Row) (F : HeadOver h table used rows) where
-  set-fits : (e : Set) → h .set ≡ e → Stands (h .arity) (h .places) used e rows → SetFits h used e
+  set-fits : (e : Set) → h .set ≡ e → Stands (h .arity) (h .open_places) used e rows → SetFits h used e
   set-fits empty q s = tt
   set-fits unit q s = s .valid
   set-fits (at i) q s = (omega (arith, F .number, s .valid .0), s .valid .3)
@@ -63,7 +63,7 @@ module _ (h : Head) (table used : List Record) (rows : List Row) (F : HeadOver h
       few-nodes = F .few-nodes;
       some-places = F .some-places;
       few-places = F .few-places;
-      open-places = F .open-places;
+      open-below = F .open-below;
       few-used = F .few-used;
       used-there = F .there;
       records = λ i w. subst (λ (u : List Record). SoundAt (h .arity) (h .nodes) u i (entry u i)) (sym (F .uses))

@@ -18,7 +18,7 @@ use Rattle.paper.specs.Row.{Row, blank, products, singleRow}
 use Rattle.paper.specs.Sound.{entry}
 use Rattle.laws.specs.Fixings.{picked}
 use Rattle.laws.specs.Plain.{Record, Set, empty}
-use Rattle.laws.specs.QuestionRows.{IsProduct, IsSingle, IsUnion, SoundAt}
+use Rattle.laws.specs.QuestionCauses.{IsProduct, IsSingle, IsUnion, SoundAt}
 use Rattle.laws.proofs.Bits.{bit-one, bit-sum, without-apart, without-lt, without-same, without-sum}
 use Rattle.laws.proofs.Listings.{getD-listings, getD-pushed}
 use Rattle.laws.proofs.Picks.{once-picked, picked-append, picked-left, picked-right}

@@ -2,7 +2,7 @@ pub mod Answers
 pub mod Lists
 pub mod Replies
 pub mod Tests
-pub mod TestedRows
+pub mod TestedCauses
 pub mod Judged
 pub mod Rows
 pub mod Runs

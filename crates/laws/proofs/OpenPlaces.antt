@@ -42,7 +42,7 @@ without-same-place b (suc i) = ap (λ (z : ℕ). hasPlace z i) (high-places b (w
 -- ---- open places
 -- an open place is at least 1
 pub open-from-one : (h : Head) (place : ℕ) → isOpen h place ≡ true → 1 ≤ place
-open-from-one h place e = leb-true 1 place (both-true (leb 1 place) (leb place (h .arity) && hasPlace (h .places) (place - 1)) e .0)
+open-from-one h place e = leb-true 1 place (both-true (leb 1 place) (leb place (h .arity) && hasPlace (h .open_places) (place - 1)) e .0)
 
 -- after a fix the other open places are open, and they alone
 module _ (h : Head) (table : List Record) (place n other : ℕ) (is-open : isOpen h place ≡ true) where
@@ -53,13 +53,13 @@ module _ (h : Head) (table : List Record) (place n other : ℕ) (is-open : isOpe
   as-before : 1 ≤ other → (other ≡ place → ⊥) → isOpen new other ≡ isOpen h other
   as-before from apart =
       let first = open-from-one h place is-open in
-      ap (λ (z : Bool). leb 1 other && (leb other (h .arity) && z)) (without-other (h .places) (place - 1) (other - 1) (λ q. apart (omega arith)))
+      ap (λ (z : Bool). leb 1 other && (leb other (h .arity) && z)) (without-other (h .open_places) (place - 1) (other - 1) (λ q. apart (omega arith)))
 
   -- and the fixed one is not
   fixed-closed : isOpen new other ≡ true → other ≡ place → ⊥
   fixed-closed e q =
-      let has = both-true (leb other (h .arity)) (hasPlace (new .places) (other - 1)) (both-true (leb 1 other) _ e .1) .1 in
-      true≢false (sym has ∙ ap (λ (i : ℕ). hasPlace (without (h .places) (place - 1)) (i - 1)) q ∙ without-same-place (h .places) (place - 1))
+      let has = both-true (leb other (h .arity)) (hasPlace (new .open_places) (other - 1)) (both-true (leb 1 other) _ e .1) .1 in
+      true≢false (sym has ∙ ap (λ (i : ℕ). hasPlace (without (h .open_places) (place - 1)) (i - 1)) q ∙ without-same-place (h .open_places) (place - 1))
 
   pub open-after : (isOpen new other ≡ true) ↔ ((isOpen h other ≡ true) × (other ≡ place → ⊥))
   open-after = (

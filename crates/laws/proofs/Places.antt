@@ -16,7 +16,7 @@ use Rattle.paper.specs.Records.{filled, listings, usedOf}
 use Rattle.paper.specs.Row.{Row, flagOf, noPlace}
 use Rattle.paper.specs.Sound.{entry}
 use Rattle.laws.specs.Plain.{Head, Record}
-use Rattle.laws.specs.QuestionRows.{IsProduct, IsUnion, Sound}
+use Rattle.laws.specs.QuestionCauses.{IsProduct, IsUnion, Sound}
 use Rattle.laws.proofs.Shaped.{shaped-all}
 use Rattle.laws.proofs.Shapes.{notBlank}
 use Rattle.laws.proofs.SoundRecords.{SoundFrom, sound-from-all}

@@ -1,5 +1,5 @@
--- The head of the query, and a later record: the tests there against the rows that may apply there, where the records before passed theirs.
--- First the head, then the rules and accepting states of the records so far, then a later record: its row 4, its row 3, its tests.
+-- The head of the query, and a later record: the tests there against the causes that may apply there, where the records before passed theirs.
+-- First the head, then the rules and accepting states of the records so far, then a later record: its cause 4, its cause 3, its tests.
 use mathlib.Core.Path.{_≡_, refl, sym, ap, _∙_, subst, subst₂}
 use mathlib.Core.Logic.{_⊎_, inl, inr, ⊎-elim}
 use mathlib.Core.Bool.{Bool, true, false, cond, not, _&&_, _||_, true≢false, false≢true}
@@ -14,24 +14,24 @@ use Rattle.paper.specs.Lists.{_∈_, has, same, allBelow}
 use Rattle.paper.specs.Stream.{bodyLength, StreamRecord, number, isTreeKind}
 use Rattle.paper.specs.Query.{side, isRuleKind, ruleOf, rulesOf, acceptingOf, queryOf}
 use Rattle.paper.specs.Refusals.{Test, treeEndTests, headTests, inRange, hasSide, isNew, laterTests, queryEndTests}
-use Rattle.laws.specs.StreamRows.{written, ofKind, RuleKind, AllTree, TreeEnds, InQuery, FaultAt, recordOrder}
-use Rattle.laws.specs.StreamRows.{QueryFault, no-head-first, second-head, unknown-kind, cut-record, head-out-of-range}
-use Rattle.laws.specs.StreamRows.{leaf-rule-out-of-range, branch-rule-out-of-range, state-out-of-range, many-rules}
-use Rattle.laws.specs.StreamRows.{SaidTwice, leaf-rule-twice, branch-rule-twice, state-twice}
+use Rattle.laws.specs.StreamCauses.{written, ofKind, RuleKind, AllTree, TreeEnds, InQuery, FaultAt, recordOrder}
+use Rattle.laws.specs.StreamCauses.{QueryFault, no-head-first, second-head, unknown-kind, cut-record, head-out-of-range}
+use Rattle.laws.specs.StreamCauses.{leaf-rule-out-of-range, branch-rule-out-of-range, state-out-of-range, many-rules}
+use Rattle.laws.specs.StreamCauses.{SaidTwice, leaf-rule-twice, branch-rule-twice, state-twice}
 use Rattle.laws.proofs.Lists.{both-true, or-right, same-true, same-refl, here}
 use Rattle.laws.proofs.Judged.{Judged, judged-none, judged-skip, judged-test}
 use Rattle.laws.proofs.Tests.{Fails, fails-at-most, fails-below, fails-and, fails-last, fails-between, passed-not}
 use Rattle.laws.proofs.StreamPlaces.{firstRecord, cut, not-cut, begins-with, made-of, no-tree-kind, tree-ends, tree-ends-nil, one-query, Counted}
-use Rattle.laws.proofs.TreeFaults.{row-two, row-one, row-three, row-four, end-judged}
+use Rattle.laws.proofs.TreeFaults.{cause-two, cause-one, cause-three, cause-four, end-judged}
 
 -- ---- the query's part of a place: a fault after these records of the query, and back
 module _ (before tree query : List StreamRecord) (bytes : List ℕ) (parts : before ≡ tree ++ query) (all : AllTree tree)
     (ends : TreeEnds (written query ++ bytes)) where
-  row-in-query : {Fault : List StreamRecord → List ℕ → Type 0} → Fault query bytes → InQuery before bytes Fault
-  row-in-query f = record { tree = tree; query = query; parts = parts; all-tree = all; tree-ends = ends; fault = f }
+  cause-in-query : {Fault : List StreamRecord → List ℕ → Type 0} → Fault query bytes → InQuery before bytes Fault
+  cause-in-query f = record { tree = tree; query = query; parts = parts; all-tree = all; tree-ends = ends; fault = f }
 
-  in-query-row : {Fault : List StreamRecord → List ℕ → Type 0} → InQuery before bytes Fault → Fault query bytes
-  in-query-row {Fault} f =
+  in-query-cause : {Fault : List StreamRecord → List ℕ → Type 0} → InQuery before bytes Fault → Fault query bytes
+  in-query-cause {Fault} f =
       let same-query = one-query tree (f .tree) query (f .query) bytes (sym parts ∙ f .parts) all (f .all-tree) ends (f .tree-ends) in
       subst (λ q. Fault q bytes) (sym same-query) (f .fault)
 
@@ -66,10 +66,10 @@ headRanges r = (3, leb 1 (number r 0) && leb (number r 0) 4) ∷ (3, leb 1 (numb
 
 module _ (before : List StreamRecord) (all : AllTree before) (counted : Counted before) where
   head-three : (bytes : List ℕ) → TreeEnds bytes → QueryFault [] bytes → FaultAt before bytes 3
-  head-three bytes ends f = inr (inr (inl (refl, row-in-query before before [] bytes (sym (append-nil before)) all ends f)))
+  head-three bytes ends f = inr (inr (inl (refl, cause-in-query before before [] bytes (sym (append-nil before)) all ends f)))
 
   in-head : {Fault : List StreamRecord → List ℕ → Type 0} (bytes : List ℕ) → TreeEnds bytes → InQuery before bytes Fault → Fault [] bytes
-  in-head bytes ends f = in-query-row before before [] bytes (sym (append-nil before)) all ends f
+  in-head bytes ends f = in-query-cause before before [] bytes (sym (append-nil before)) all ends f
 
   -- the input ends where the tree does
   pub no-query-judged : Judged (FaultAt before []) (treeEndTests before ++ queryEndTests []) recordOrder
@@ -82,8 +82,8 @@ module _ (before : List StreamRecord) (all : AllTree before) (counted : Counted 
   head-ranges-judged arity states rest =
       judged-test (λ e. out (⊎-elim inl (λ h. inr (inl h)) (fails-between 1 4 arity .0 e)))
       (λ a. judged-test (λ e. out (inr (inr (fails-between 1 16 states .0 e))))
-      (λ s. judged-skip (λ f. no-head-fault arity states rest (none a s) (in-head (16 ∷ arity ∷ states ∷ rest) ends (row-three f)))
-      (judged-skip (λ f. none-twice (16 ∷ arity ∷ states ∷ rest) (in-head (16 ∷ arity ∷ states ∷ rest) ends (row-four f))) judged-none)))
+      (λ s. judged-skip (λ f. no-head-fault arity states rest (none a s) (in-head (16 ∷ arity ∷ states ∷ rest) ends (cause-three f)))
+      (judged-skip (λ f. none-twice (16 ∷ arity ∷ states ∷ rest) (in-head (16 ∷ arity ∷ states ∷ rest) ends (cause-four f))) judged-none)))
     where
       ends : TreeEnds (16 ∷ arity ∷ states ∷ rest)
       ends = tree-ends 16 (arity ∷ states ∷ rest) refl
@@ -103,7 +103,7 @@ module _ (before : List StreamRecord) (all : AllTree before) (counted : Counted 
       (λ two. subst (λ m. Judged (FaultAt before (16 ∷ m)) (headRanges (firstRecord 16 m)) (3 ∷ 4 ∷ [])) (sym (begins-with 2 more two))
       (head-ranges-judged (getD more 0 0) (getD more 1 0) (drop 2 more))) h
 
-  -- the tests where the tree ends and of the head judge as the rows there do
+  -- the tests where the tree ends and of the head judge as the causes there do
   pub head-judged : (k : ℕ) (more : List ℕ) → isTreeKind k ≡ false
       → Judged (FaultAt before (k ∷ more)) (treeEndTests before ++ headTests (firstRecord k more)) recordOrder
   head-judged k more kind =
@@ -229,7 +229,7 @@ module _ (head : StreamRecord) (later : List StreamRecord) (head-kind : head .ki
   rules-so-far : ofKind 17 (head ∷ later) + ofKind 18 (head ∷ later) ≡ length (rulesOf later)
   rules-so-far = rw head-kind (omega (arith, rules-counted later))
 
-  -- row 4 against the tests, for each kind
+  -- cause 4 against the tests, for each kind
   leaf-rule-said : (a b q : ℕ) (rest : List ℕ) → SaidTwice (head ∷ later) (17 ∷ a ∷ b ∷ q ∷ rest) → hasSide (rulesOf later) (17 ∷ a ∷ b ∷ []) ≡ true
   leaf-rule-said a b q rest (leaf-rule-twice r a′ b′ q′ q″ more e m k body) =
       let same-a : a ≡ a′ = cc in
@@ -280,7 +280,7 @@ module _ (head : StreamRecord) (later : List StreamRecord) (head-kind : head .ki
       let l = state-like r q (all-whole r m) t in
       state-twice r q rest refl (List·Memᴰ·tail m) (l .0) (l .1)
 
-  -- what row 3 says of a rule or an accepting state that is whole
+  -- what cause 3 says of a rule or an accepting state that is whole
   abbrev LeafRuleOut : ℕ → ℕ → ℕ → Type 0
   LeafRuleOut a b q = (63 < a) ⊎ ((2 ^ number head 0 ≤ b) ⊎ (number head 1 ≤ q))
 
@@ -370,23 +370,23 @@ module _ (head : StreamRecord) (later : List StreamRecord) (head-kind : head .ki
     not-all-tree a = no-tree-kind (head .kind) (rw head-kind refl) (a head (rw parts (Memᴰ·append-right tree here)))
 
     later-three : {bytes : List ℕ} → QueryFault (head ∷ later) bytes → FaultAt before bytes 3
-    later-three {bytes} f = inr (inr (inl (refl, row-in-query before tree (head ∷ later) bytes parts all (ends-before-head bytes) f)))
+    later-three {bytes} f = inr (inr (inl (refl, cause-in-query before tree (head ∷ later) bytes parts all (ends-before-head bytes) f)))
 
     later-four : {bytes : List ℕ} → SaidTwice (head ∷ later) bytes → FaultAt before bytes 4
-    later-four {bytes} f = inr (inr (inr (refl, row-in-query before tree (head ∷ later) bytes parts all (ends-before-head bytes) f)))
+    later-four {bytes} f = inr (inr (inr (refl, cause-in-query before tree (head ∷ later) bytes parts all (ends-before-head bytes) f)))
 
     in-later : {Fault : List StreamRecord → List ℕ → Type 0} {bytes : List ℕ} → InQuery before bytes Fault → Fault (head ∷ later) bytes
-    in-later {bytes = bytes} f = in-query-row before tree (head ∷ later) bytes parts all (ends-before-head bytes) f
+    in-later {bytes = bytes} f = in-query-cause before tree (head ∷ later) bytes parts all (ends-before-head bytes) f
 
-    -- rows 2 and 1 are the tree's
+    -- causes 2 and 1 are the tree's
     after-tree : {bytes : List ℕ} {ts : List Test} → Judged (FaultAt before bytes) ts (3 ∷ 4 ∷ []) → Judged (FaultAt before bytes) ts recordOrder
-    after-tree j = judged-skip (λ f. not-all-tree (row-two f .0)) (judged-skip (λ f. not-all-tree (row-one f .0)) j)
+    after-tree j = judged-skip (λ f. not-all-tree (cause-two f .0)) (judged-skip (λ f. not-all-tree (cause-one f .0)) j)
 
     -- the input ends after records of the query
     pub query-end-judged : Judged (FaultAt before []) (queryEndTests (head ∷ later)) recordOrder
     query-end-judged =
         after-tree (judged-test (λ e. absurd (true≢false e))
-        (λ e. judged-skip (λ f. no-fault-left (in-later (row-three f))) (judged-skip (λ f. none-twice-left (in-later (row-four f))) judged-none)))
+        (λ e. judged-skip (λ f. no-fault-left (in-later (cause-three f))) (judged-skip (λ f. none-twice-left (in-later (cause-four f))) judged-none)))
 
     -- the tests after the kind and the body's length
     abbrev laterRanges : StreamRecord → List Test
@@ -404,9 +404,9 @@ module _ (head : StreamRecord) (later : List StreamRecord) (head-kind : head .ki
     leaf-rule-judged a b q rest =
         judged-test (λ e. later-three (leaf-rule-out-of-range head later a b q rest refl refl (range .0 e)))
         (λ r. judged-test (λ e. later-three (many-rules 17 (a ∷ b ∷ q ∷ rest) refl (inl refl) (many .0 e)))
-        (λ few. judged-skip (λ f. ⊎-elim (passed-not range r) (passed-not many few) (leaf-rule-fault a b q rest (in-later (row-three f))))
+        (λ few. judged-skip (λ f. ⊎-elim (passed-not range r) (passed-not many few) (leaf-rule-fault a b q rest (in-later (cause-three f))))
         (judged-test (λ e. later-four (said-leaf-rule a b q rest (not-false _ e)))
-        (λ new. judged-skip (λ f. true≢false (sym (leaf-rule-said a b q rest (in-later (row-four f))) ∙ not-true _ new)) judged-none))))
+        (λ new. judged-skip (λ f. true≢false (sym (leaf-rule-said a b q rest (in-later (cause-four f))) ∙ not-true _ new)) judged-none))))
       where
         range : Fails (leb a 63 && (ltb b (2 ^ number head 0) && allBelow (number head 1) (q ∷ []))) (LeafRuleOut a b q)
         range = fails-and (fails-at-most a 63) (fails-and (fails-below b (2 ^ number head 0)) (fails-last (fails-below q (number head 1))))
@@ -416,9 +416,9 @@ module _ (head : StreamRecord) (later : List StreamRecord) (head-kind : head .ki
     branch-rule-judged a b p q t rest =
         judged-test (λ e. later-three (branch-rule-out-of-range head later a b p q t rest refl refl (range .0 e)))
         (λ r. judged-test (λ e. later-three (many-rules 18 (a ∷ b ∷ p ∷ q ∷ t ∷ rest) refl (inr refl) (many .0 e)))
-        (λ few. judged-skip (λ f. ⊎-elim (passed-not range r) (passed-not many few) (branch-rule-fault a b p q t rest (in-later (row-three f))))
+        (λ few. judged-skip (λ f. ⊎-elim (passed-not range r) (passed-not many few) (branch-rule-fault a b p q t rest (in-later (cause-three f))))
         (judged-test (λ e. later-four (said-branch-rule a b p q t rest (not-false _ e)))
-        (λ new. judged-skip (λ f. true≢false (sym (branch-rule-said a b p q t rest (in-later (row-four f))) ∙ not-true _ new)) judged-none))))
+        (λ new. judged-skip (λ f. true≢false (sym (branch-rule-said a b p q t rest (in-later (cause-four f))) ∙ not-true _ new)) judged-none))))
       where
         range : Fails (leb a 63 && (ltb b (2 ^ number head 0) && allBelow (number head 1) (p ∷ q ∷ t ∷ []))) (BranchRuleOut a b p q t)
         range =
@@ -429,9 +429,9 @@ module _ (head : StreamRecord) (later : List StreamRecord) (head-kind : head .ki
     state-judged q rest =
         judged-test (λ e. later-three (state-out-of-range head later q rest refl refl (ltb-false q (number head 1) e)))
         (λ r. judged-test (λ e. absurd (true≢false e))
-        (λ few. judged-skip (λ f. passed-not (fails-below q (number head 1)) r (state-fault q rest (in-later (row-three f))))
+        (λ few. judged-skip (λ f. passed-not (fails-below q (number head 1)) r (state-fault q rest (in-later (cause-three f))))
         (judged-test (λ e. later-four (said-state q rest (not-false _ e)))
-        (λ new. judged-skip (λ f. true≢false (sym (state-said q rest (in-later (row-four f))) ∙ not-true _ new)) judged-none))))
+        (λ new. judged-skip (λ f. true≢false (sym (state-said q rest (in-later (cause-four f))) ∙ not-true _ new)) judged-none))))
 
     abbrev LaterRangesJudged : ℕ → List ℕ → Type 0
     LaterRangesJudged k more = Judged (FaultAt before (k ∷ more)) (laterRanges (firstRecord k more)) (3 ∷ 4 ∷ [])
@@ -458,7 +458,7 @@ module _ (head : StreamRecord) (later : List StreamRecord) (head-kind : head .ki
         go true e = second-head (λ z. cons≢nil z) more (ap {B = List ℕ} (λ j. j ∷ more) (eqb-true k 16 e))
         go false e = let z : k ≡ 16 → ⊥ = eqb-false k 16 e in unknown-kind k more refl (inl (omega arith))
 
-    -- the tests of a later record judge as its rows do
+    -- the tests of a later record judge as its causes do
     pub later-judged : (k : ℕ) (more : List ℕ)
         → Judged (FaultAt before (k ∷ more)) (laterTests (queryOf (head ∷ later)) (firstRecord k more)) recordOrder
     later-judged k more =

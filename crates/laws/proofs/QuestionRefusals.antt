@@ -1,5 +1,5 @@
--- Each question is refused with the first number in the paper's order whose row applies, and answered where none does.
--- First the rows of the questions, then the five questions.
+-- Each question is refused with the first number in the paper's order whose cause applies, and answered where none does.
+-- First the causes of the questions, then the five questions.
 use mathlib.Core.Bool.{Bool, cond, false, false≢true, not, true, true≢false}
 use mathlib.Core.List.{List, [], _∷_}
 use mathlib.Core.Logic.{Iff·rfl, Iff·trans, _↔_, _⊎_, inl, inr, ⊎-elim}
@@ -16,10 +16,10 @@ use Rattle.paper.specs.Row.{Row, blank}
 use Rattle.paper.specs.Sound.{sound}
 use Rattle.laws.specs.First.{FirstOf, NoneOf}
 use Rattle.laws.specs.Plain.{Head, Record, Set, at, empty, unit}
-use Rattle.laws.specs.QuestionRows.{CountRow, FixRow, MemberRow, NotOpen, NumberRow, ProjectRow, Sound, UnitTwice, WrongEntry, questionOrder}
+use Rattle.laws.specs.QuestionCauses.{CountCause, FixCause, MemberCause, NotOpen, NumberCause, ProjectCause, Sound, UnitTwice, WrongEntry, questionOrder}
 use Rattle.laws.proofs.Replies.{Fits, refused-first}
 use Rattle.laws.proofs.SoundTest.{is-sound, sound-is}
-use Rattle.laws.proofs.TestedRows.{Tested, answers-none, fits, more-rows, one-row}
+use Rattle.laws.proofs.TestedCauses.{Tested, answers-none, fits, more-causes, one-cause}
 use Rattle.laws.proofs.Tests.{Fails, Says, fails-and, fails-at-most, fails-below, fails-equal, fails-not, fails-says, says-and, says-equal, says-or}
 
 -- ---- somewhere in a list: an entry of which, with its number counted from i, the statement holds
@@ -47,22 +47,22 @@ module _ {A : Type 0} (d : A) (P : ℕ → A → Type 0) where
       cases zero l p = inl (rw zeroth at p)
       cases (suc j) l p = inr (j, omega arith, rw (further j) at p)
 
--- ---- the rows
-work-row : (h : Head) (workLength : ℕ) → Fails (leb (questionWork h) workLength) (workLength < questionWork h)
-work-row h workLength = fails-at-most (questionWork h) workLength
+-- ---- the causes
+work-cause : (h : Head) (workLength : ℕ) → Fails (leb (questionWork h) workLength) (workLength < questionWork h)
+work-cause h workLength = fails-at-most (questionWork h) workLength
 
-sound-row : (h : Head) (table : List Record) → Fails (sound h table) (Sound h table → ⊥)
-sound-row h table = fails-says (sound-is h table, is-sound h table)
+sound-cause : (h : Head) (table : List Record) → Fails (sound h table) (Sound h table → ⊥)
+sound-cause h table = fails-says (sound-is h table, is-sound h table)
 
-place-row : (h : Head) (place : ℕ) → Fails (isOpen h place) (NotOpen h place)
-place-row h place = fails-and (fails-at-most 1 place) (fails-and (fails-at-most place (h .arity)) Iff·rfl)
+place-cause : (h : Head) (place : ℕ) → Fails (isOpen h place) (NotOpen h place)
+place-cause h place = fails-and (fails-at-most 1 place) (fails-and (fails-at-most place (h .arity)) Iff·rfl)
 
 -- the entries of a member row: one of them, then those from index i on
 abbrev Wrong : Head → ℕ → ℕ → Type 0
-Wrong h i x = ((hasPlace (h .places) i ≡ true) × (h .nodes ≤ x)) ⊎ ((hasPlace (h .places) i ≡ false) × (x ≡ blank → ⊥))
+Wrong h i x = ((hasPlace (h .open_places) i ≡ true) × (h .nodes ≤ x)) ⊎ ((hasPlace (h .open_places) i ≡ false) × (x ≡ blank → ⊥))
 
-entry-row : (h : Head) (i x : ℕ) → Fails (cond (hasPlace (h .places) i) (ltb x (h .nodes)) (eqb x blank)) (Wrong h i x)
-entry-row h i x = go (hasPlace (h .places) i)
+entry-cause : (h : Head) (i x : ℕ) → Fails (cond (hasPlace (h .open_places) i) (ltb x (h .nodes)) (eqb x blank)) (Wrong h i x)
+entry-cause h i x = go (hasPlace (h .open_places) i)
   where
     go : (c : Bool) → Fails (cond c (ltb x (h .nodes)) (eqb x blank)) (((c ≡ true) × (h .nodes ≤ x)) ⊎ ((c ≡ false) × (x ≡ blank → ⊥)))
     go true = Iff·trans (fails-below x (h .nodes)) (λ l. inl (refl, l), ⊎-elim (λ w. w .1) (λ w. absurd (true≢false (w .0))))
@@ -70,10 +70,10 @@ entry-row h i x = go (hasPlace (h .places) i)
 
 entries-from : (h : Head) (i : ℕ) (row : Row) → Fails (entriesFit h i row) (Somewhere blank (Wrong h) i row)
 entries-from h i [] = (λ e. absurd (true≢false e), λ w. absurd (nowhere blank (Wrong h) i w))
-entries-from h i (x ∷ xs) = Iff·trans (fails-and (entry-row h i x) (entries-from h (suc i) xs)) (somewhere-first blank (Wrong h) i x xs)
+entries-from h i (x ∷ xs) = Iff·trans (fails-and (entry-cause h i x) (entries-from h (suc i) xs)) (somewhere-first blank (Wrong h) i x xs)
 
-pub entries-row : (h : Head) (row : Row) → Fails (entriesFit h 0 row) (WrongEntry h row)
-entries-row h row =
+pub entries-cause : (h : Head) (row : Row) → Fails (entriesFit h 0 row) (WrongEntry h row)
+entries-cause h row =
     Iff·trans (entries-from h 0 row) (
       λ (j, l, w). record { index = j; in-row = l; wrong = rw (zero-add j) at w },
       λ w. (w .index, w .in-row, rw (zero-add (w .index)) (w .wrong)),
@@ -98,9 +98,9 @@ says-both-unit images i (r ∷ rest) =
     (says-both-unit images (suc i) rest))
     (somewhere-first blankEntry (λ j r. BothUnit images r) i r rest)
 
-pub unit-twice-row : (h : Head) (table : List Record) (place n : ℕ)
+pub unit-twice-cause : (h : Head) (table : List Record) (place n : ℕ)
     → Fails (not (unitTwice ((imagesOf (place - 1) n (usedOf h table)) .1) (usedOf h table))) (UnitTwice h table place n)
-unit-twice-row h table place n =
+unit-twice-cause h table place n =
     fails-not
     (Iff·trans (says-both-unit ((imagesOf (place - 1) n (usedOf h table)) .1) 0 (usedOf h table)) (
       λ (j, l, (kind, (left, right))). record { number = j; used = l; union = kind; left = left; right = right },
@@ -110,84 +110,84 @@ unit-twice-row h table place n =
 -- ---- the questions
 module _ (h : Head) (table : List Record) (workLength : ℕ) where
   -- what every question asks first
-  ask-rows : Tested (CountRow h table workLength) (askTests h table workLength)
-  ask-rows = more-rows (one-row 5 (work-row h workLength)) (one-row 11 (sound-row h table))
+  ask-causes : Tested (CountCause h table workLength) (askTests h table workLength)
+  ask-causes = more-causes (one-cause 5 (work-cause h workLength)) (one-cause 11 (sound-cause h table))
 
   -- count
-  pub count-fits : Fits (CountRow h table workLength) (askTests h table workLength) questionOrder
-  count-fits = fits questionOrder ask-rows refl refl
+  pub count-fits : Fits (CountCause h table workLength) (askTests h table workLength) questionOrder
+  count-fits = fits questionOrder ask-causes refl refl
 
-  pub count-refused : (n : ℕ) → (count h table workLength ≡ refused n) ↔ FirstOf questionOrder (CountRow h table workLength) n
+  pub count-refused : (n : ℕ) → (count h table workLength ≡ refused n) ↔ FirstOf questionOrder (CountCause h table workLength) n
   count-refused n = refused-first (countOf h table) n count-fits
 
-  pub count-answers : (count h table workLength ≡ answer (countOf h table)) ↔ NoneOf questionOrder (CountRow h table workLength)
+  pub count-answers : (count h table workLength ≡ answer (countOf h table)) ↔ NoneOf questionOrder (CountCause h table workLength)
   count-answers = answers-none (countOf h table) count-fits
 
   -- row by number
   module _ (k outLength : ℕ) where
-    pub rowByNumber-fits : Fits (NumberRow h table workLength k outLength) (rowTests h table workLength k outLength) questionOrder
+    pub rowByNumber-fits : Fits (NumberCause h table workLength k outLength) (rowTests h table workLength k outLength) questionOrder
     rowByNumber-fits =
         fits questionOrder
-        (more-rows ask-rows (more-rows (one-row 9 (fails-below k (countOf h table))) (one-row 10 (fails-at-most (h .arity) outLength))))
+        (more-causes ask-causes (more-causes (one-cause 9 (fails-below k (countOf h table))) (one-cause 10 (fails-at-most (h .arity) outLength))))
         refl refl
 
     pub rowByNumber-refused : (n : ℕ)
-        → (rowByNumber h table workLength k outLength ≡ refused n) ↔ FirstOf questionOrder (NumberRow h table workLength k outLength) n
+        → (rowByNumber h table workLength k outLength ≡ refused n) ↔ FirstOf questionOrder (NumberCause h table workLength k outLength) n
     rowByNumber-refused n = refused-first (rowNumbered h table k) n rowByNumber-fits
 
     pub rowByNumber-answers :
         (rowByNumber h table workLength k outLength ≡ answer (rowNumbered h table k))
-        ↔ NoneOf questionOrder (NumberRow h table workLength k outLength)
+        ↔ NoneOf questionOrder (NumberCause h table workLength k outLength)
     rowByNumber-answers = answers-none (rowNumbered h table k) rowByNumber-fits
 
   -- member
   module _ (row : Row) where
-    pub member-fits : Fits (MemberRow h table workLength row) (memberTests h table workLength row) questionOrder
+    pub member-fits : Fits (MemberCause h table workLength row) (memberTests h table workLength row) questionOrder
     member-fits =
         fits questionOrder
-        (more-rows ask-rows (more-rows (one-row 13 (fails-equal (length row) (h .arity))) (one-row 8 (entries-row h row))))
+        (more-causes ask-causes (more-causes (one-cause 13 (fails-equal (length row) (h .arity))) (one-cause 8 (entries-cause h row))))
         refl refl
 
-    pub member-refused : (n : ℕ) → (member h table workLength row ≡ refused n) ↔ FirstOf questionOrder (MemberRow h table workLength row) n
+    pub member-refused : (n : ℕ) → (member h table workLength row ≡ refused n) ↔ FirstOf questionOrder (MemberCause h table workLength row) n
     member-refused n = refused-first (isListed (listing h table) row) n member-fits
 
     pub member-answers :
-        (member h table workLength row ≡ answer (isListed (listing h table) row)) ↔ NoneOf questionOrder (MemberRow h table workLength row)
+        (member h table workLength row ≡ answer (isListed (listing h table) row)) ↔ NoneOf questionOrder (MemberCause h table workLength row)
     member-answers = answers-none (isListed (listing h table) row) member-fits
 
   -- project
   module _ (place outLength : ℕ) where
-    pub project-fits : Fits (ProjectRow h table workLength place outLength) (projectTests h table workLength place outLength) questionOrder
+    pub project-fits : Fits (ProjectCause h table workLength place outLength) (projectTests h table workLength place outLength) questionOrder
     project-fits =
         fits questionOrder
-        (more-rows ask-rows (more-rows (one-row 7 (place-row h place)) (one-row 10 (fails-at-most (h .nodes) outLength))))
+        (more-causes ask-causes (more-causes (one-cause 7 (place-cause h place)) (one-cause 10 (fails-at-most (h .nodes) outLength))))
         refl refl
 
     pub project-refused : (n : ℕ)
-        → (project h table workLength place outLength ≡ refused n) ↔ FirstOf questionOrder (ProjectRow h table workLength place outLength) n
+        → (project h table workLength place outLength ≡ refused n) ↔ FirstOf questionOrder (ProjectCause h table workLength place outLength) n
     project-refused n = refused-first (marksOf h table place) n project-fits
 
     pub project-answers :
         (project h table workLength place outLength ≡ answer (marksOf h table place))
-        ↔ NoneOf questionOrder (ProjectRow h table workLength place outLength)
+        ↔ NoneOf questionOrder (ProjectCause h table workLength place outLength)
     project-answers = answers-none (marksOf h table place) project-fits
 
   -- fix
   module _ (place node targetLength : ℕ) where
-    pub fix-fits : Fits (FixRow h table workLength place node targetLength) (fixTests h table workLength place node targetLength) questionOrder
+    pub fix-fits : Fits (FixCause h table workLength place node targetLength) (fixTests h table workLength place node targetLength) questionOrder
     fix-fits =
         fits questionOrder
-        (more-rows ask-rows
-        (more-rows (one-row 7 (place-row h place))
-        (more-rows (one-row 8 (fails-below node (h .nodes)))
-        (more-rows (one-row 6 (fails-at-most (h .used) targetLength)) (one-row 12 (unit-twice-row h table place node))))))
+        (more-causes ask-causes
+        (more-causes (one-cause 7 (place-cause h place))
+        (more-causes (one-cause 8 (fails-below node (h .nodes)))
+        (more-causes (one-cause 6 (fails-at-most (h .used) targetLength)) (one-cause 12 (unit-twice-cause h table place node))))))
         refl refl
 
     pub fix-refused : (n : ℕ)
-        → (fix h table workLength place node targetLength ≡ refused n) ↔ FirstOf questionOrder (FixRow h table workLength place node targetLength) n
+        → (fix h table workLength place node targetLength ≡ refused n) ↔ FirstOf questionOrder (FixCause h table workLength place node targetLength) n
     fix-refused n = refused-first (fixedSet h table place node) n fix-fits
 
     pub fix-answers :
         (fix h table workLength place node targetLength ≡ answer (fixedSet h table place node))
-        ↔ NoneOf questionOrder (FixRow h table workLength place node targetLength)
+        ↔ NoneOf questionOrder (FixCause h table workLength place node targetLength)
     fix-answers = answers-none (fixedSet h table place node) fix-fits

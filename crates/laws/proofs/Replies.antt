@@ -1,5 +1,5 @@
 -- Replies and lists of tests: the number given is that of the first test that fails.
--- First what a refusal and an answer tell of the tests, then tests against the rows of a table in an order.
+-- First what a refusal and an answer tell of the tests, then tests against the causes in an order.
 use mathlib.Core.Bool.{Bool, cond, false, true, true≢false}
 use mathlib.Core.List.{List, [], _++_, _∷_}
 use mathlib.Core.Logic.{_↔_, _⊎_, inl, inr}
@@ -67,7 +67,7 @@ pub unless-append : {A : Type 0} (ts us : List Test) (a : A) → Passes ts → u
 unless-append [] us a p = refl
 unless-append (t ∷ ts) us a p = rw (p .0) (unless-append ts us a (p .1))
 
--- ---- tests against rows: each test fails exactly where its row applies, and a number without a test has a row that never does
+-- ---- tests against causes: each test fails exactly where its cause applies, and a number without a test has a cause that never does
 pub data Fits (Applies : ℕ → Type 0) : List Test → List ℕ → Type 0 where
   ends : Fits Applies [] []
   skips : {m : ℕ} {ms : List ℕ} {ts : List Test} → (Applies m → ⊥) → Fits Applies ts ms → Fits Applies ts (m ∷ ms)
@@ -75,7 +75,7 @@ pub data Fits (Applies : ℕ → Type 0) : List Test → List ℕ → Type 0 whe
       → Fits Applies ts ms → Fits Applies ((m, c) ∷ ts) (m ∷ ms)
 
 module _ {A : Type 0} {Applies : ℕ → Type 0} (a : A) (n : ℕ) where
-  -- the number given is the first whose row applies
+  -- the number given is the first whose cause applies
   pub first-given : {ts : List Test} {ms : List ℕ} → Fits Applies ts ms → unless ts a ≡ refused n → FirstOf ms Applies n
   first-given ends e = absurd (refused-not-answer (sym e))
   first-given (skips f r) e = inr (f, first-given r e)
@@ -101,7 +101,7 @@ module _ {A : Type 0} {Applies : ℕ → Type 0} (a : A) (n : ℕ) where
   refused-first r = (first-given r, gives-first r)
 
 module _ {Applies : ℕ → Type 0} where
-  -- every test holds exactly where no row applies
+  -- every test holds exactly where no cause applies
   pub passes-none : {ts : List Test} {ms : List ℕ} → Fits Applies ts ms → Passes ts → NoneOf ms Applies
   passes-none ends p = tt
   passes-none (skips f r) p = (f, passes-none r p)

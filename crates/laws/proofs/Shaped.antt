@@ -12,7 +12,7 @@ use Rattle.paper.specs.Records.{byKind, listings, recordRows}
 use Rattle.paper.specs.Row.{Row, products, singleRow}
 use Rattle.paper.specs.Sound.{entry}
 use Rattle.laws.specs.Plain.{Record}
-use Rattle.laws.specs.QuestionRows.{IsProduct, IsSingle, IsUnion, SoundAt}
+use Rattle.laws.specs.QuestionCauses.{IsProduct, IsSingle, IsUnion, SoundAt}
 use Rattle.laws.proofs.Listings.{getD-listings, getD-pushed}
 use Rattle.laws.proofs.Lists.{which}
 use Rattle.laws.proofs.Shapes.{ShapeBelow, shape-product, shape-single}

@@ -17,11 +17,11 @@ use Rattle.paper.specs.Records.{listing, listings, setRows, usedOf}
 use Rattle.paper.specs.Refusals.{Test, answer, askTests, entriesFit, isOpen, member, memberTests, projectTests, rowTests}
 use Rattle.paper.specs.Row.{Row, blank}
 use Rattle.laws.specs.Plain.{Head, Record, Set, at, empty, unit}
-use Rattle.laws.specs.QuestionRows.{SetFits, Sound, WrongEntry}
+use Rattle.laws.specs.QuestionCauses.{SetFits, Sound, WrongEntry}
 use Rattle.laws.specs.Said.{SaysTheRows, StandsIn}
 use Rattle.laws.proofs.Listed.{in-listed, listed-in, map-upTo, row-stands, stands-row}
 use Rattle.laws.proofs.Lists.{in-at}
-use Rattle.laws.proofs.QuestionRefusals.{entries-row}
+use Rattle.laws.proofs.QuestionRefusals.{entries-cause}
 use Rattle.laws.proofs.Replies.{Passes, answered, answers, passes-append}
 use Rattle.laws.proofs.Shaped.{shaped-all}
 use Rattle.laws.proofs.Shapes.{ShapeBelow, entry-blank, entry-node, placesOf, shape-single}
@@ -36,7 +36,7 @@ module _ (h : Head) (table : List Record) (S : Sound h table) where
   used = usedOf h table
 
   abbrev Shaped : List Row → Type 0
-  Shaped = ShapeBelow (h .nodes) (h .arity) (h .places)
+  Shaped = ShapeBelow (h .nodes) (h .arity) (h .open_places)
 
   -- each has a node of the tree at each open place, and is blank at each fixed one
   pub listing-shaped : Shaped (listing h table)
@@ -57,7 +57,7 @@ module _ (h : Head) (table : List Record) (S : Sound h table) where
 
   -- so no entry of such a row is wrong
   none-wrong : (row : Row) → row ∈ listing h table → WrongEntry h row → ⊥
-  none-wrong row m w = ⊎-elim no-node (λ (is-fixed, filled). filled (entry-blank (h .arity) (h .places) i row long fills inside is-fixed)) (w .wrong)
+  none-wrong row m w = ⊎-elim no-node (λ (is-fixed, filled). filled (entry-blank (h .arity) (h .open_places) i row long fills inside is-fixed)) (w .wrong)
     where
       i : ℕ
       i = w .index
@@ -65,15 +65,15 @@ module _ (h : Head) (table : List Record) (S : Sound h table) where
       long : length row ≡ h .arity
       long = listing-shaped row m .0
 
-      fills : placesOf row ≡ h .places
+      fills : placesOf row ≡ h .open_places
       fills = listing-shaped row m .1
 
       inside : i < h .arity
       inside = omega (arith, long, w .in-row)
 
-      no-node : (hasPlace (h .places) i ≡ true) × (h .nodes ≤ getD row i blank) → ⊥
+      no-node : (hasPlace (h .open_places) i ≡ true) × (h .nodes ≤ getD row i blank) → ⊥
       no-node (is-open, above) =
-          let filled = ap not (entry-node (h .arity) (h .places) i row long fills inside is-open) in
+          let filled = ap not (entry-node (h .arity) (h .open_places) i row long fills inside is-open) in
           omega (arith, above, listing-shaped row m .2 (getD row i blank) (in-at blank row i (w .in-row)) filled)
 
   -- ---- the tests of a question
@@ -88,7 +88,7 @@ module _ (h : Head) (table : List Record) (S : Sound h table) where
   looks workLength row work long right =
       answers (memberTests h table workLength row) (isListed (listing h table) row)
       (asks workLength ((13, eqb (length row) (h .arity)) ∷ (8, entriesFit h 0 row) ∷ []) work
-      (eq-eqb (length row) (h .arity) long, (passes-if-not (entries-row h row) right, tt)))
+      (eq-eqb (length row) (h .arity) long, (passes-if-not (entries-cause h row) right, tt)))
 
   -- ---- what it says
   member-says : (workLength : ℕ) → questionWork h ≤ workLength → (row : Row) → (member h table workLength row ≡ answer true) ↔ (row ∈ listing h table)

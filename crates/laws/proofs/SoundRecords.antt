@@ -13,7 +13,7 @@ use lib.Seq.{append-snoc}
 use Rattle.paper.specs.Records.{blankEntry}
 use Rattle.paper.specs.Sound.{entry, operands, soundKind, soundRecord, soundRecords}
 use Rattle.laws.specs.Plain.{Record, at}
-use Rattle.laws.specs.QuestionRows.{IsProduct, IsSingle, IsUnion, SoundAt}
+use Rattle.laws.specs.QuestionCauses.{IsProduct, IsSingle, IsUnion, SoundAt}
 use Rattle.laws.proofs.Tests.{Says, says-and, says-below, says-equal, says-nothing, says-or}
 
 -- each record of the rest is sound after those before it

@@ -12,7 +12,7 @@ use Rattle.paper.specs.Records.{listings, usedOf}
 use Rattle.paper.specs.Row.{Row}
 use Rattle.paper.specs.Sound.{entry, fewRows, mostRows, sound, soundRecords, soundSet}
 use Rattle.laws.specs.Plain.{Head, Record, Set, at, empty, unit}
-use Rattle.laws.specs.QuestionRows.{SetFits, Sound, SoundAt}
+use Rattle.laws.specs.QuestionCauses.{SetFits, Sound, SoundAt}
 use Rattle.laws.proofs.Listings.{length-listings}
 use Rattle.laws.proofs.SoundRecords.{sound-from-all, soundRecords-true, true-soundRecords}
 use Rattle.laws.proofs.Tests.{Says, says-and, says-at-most, says-below, says-equal, says-nothing}
@@ -39,8 +39,8 @@ says-records arity nodes records =
 -- the set fits its records
 says-set : (h : Head) (used : List Record) (s : Set) → Says (soundSet h used s) (SetFits h used s)
 says-set h used empty = says-nothing
-says-set h used unit = says-equal (h .places) 0
-says-set h used (at i) = says-and (says-below i (h .used)) (says-equal (entry used i .flag) (h .places))
+says-set h used unit = says-equal (h .open_places) 0
+says-set h used (at i) = says-and (says-below i (h .used)) (says-equal (entry used i .flag) (h .open_places))
 
 -- ---- all the tests
 -- of the same numbers
@@ -62,7 +62,7 @@ module _ (h : Head) (table : List Record) where
       (says-and (says-at-most (h .nodes) 4095)
       (says-and (says-at-most 1 (h .arity))
       (says-and (says-at-most (h .arity) 4)
-      (says-and (says-below (h .places) (2 ^ h .arity))
+      (says-and (says-below (h .open_places) (2 ^ h .arity))
       (says-and (says-at-most (h .used) 60000)
       (says-and (says-at-most (h .used) (length table))
       (says-and (says-records (h .arity) (h .nodes) (usedOf h table))
@@ -73,7 +73,7 @@ module _ (h : Head) (table : List Record) where
           few-nodes = b;
           some-places = c;
           few-places = d;
-          open-places = e;
+          open-below = e;
           few-used = f;
           used-there = there;
           records = as-many (used-length there) records;
@@ -85,7 +85,7 @@ module _ (h : Head) (table : List Record) where
           few-nodes = b;
           some-places = c;
           few-places = d;
-          open-places = e;
+          open-below = e;
           few-used = f;
           used-there = there;
           records = records;

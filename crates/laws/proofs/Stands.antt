@@ -17,7 +17,7 @@ use Rattle.paper.specs.Records.{blankEntry, listings, productOf, recordRows, se
 use Rattle.paper.specs.Row.{Row, blank, merge, products, singleRow}
 use Rattle.paper.specs.Sound.{entry}
 use Rattle.laws.specs.Plain.{Record, Set, at, empty, unit}
-use Rattle.laws.specs.QuestionRows.{SoundAt}
+use Rattle.laws.specs.QuestionCauses.{SoundAt}
 use Rattle.laws.proofs.Listings.{getD-listings, getD-pushed}
 use Rattle.laws.proofs.Lists.{each-none, here, once-one}
 use Rattle.laws.proofs.Shapes.{Shape, merge-inj, shape-few, shape-product, shape-single}

@@ -15,7 +15,7 @@ use Rattle.paper.specs.Lists.{through}
 use Rattle.paper.specs.Stream.{StreamRecord, bodyLength, isTreeKind, queryRecords, recordsOf, recordsWithin, treeRecords, whole}
 use Rattle.paper.specs.Tree.{Tree, grow, join, unjoined}
 use Rattle.laws.specs.Plain.{at}
-use Rattle.laws.specs.StreamRows.{AllTree, Begins, TreeEnds, TreeKind, ofKind, written}
+use Rattle.laws.specs.StreamCauses.{AllTree, Begins, TreeEnds, TreeKind, ofKind, written}
 use Rattle.laws.proofs.Lists.{here, only, through-append}
 use Rattle.laws.proofs.Stands.{later}
 

@@ -15,7 +15,7 @@ use Rattle.paper.specs.Stream.{bodyLength, StreamRecord, recordsOf, isTreeKind,
 use Rattle.paper.specs.Refusals.{refused, answer, Test, unless, atEach, treeTests, treeEndTests, headTests, queryTests, queryEndTests, treePart, queryPart, workFor, madeFrom, headFrom, build}
 use Rattle.laws.specs.Plain.{Record, Head}
 use Rattle.laws.specs.First.{FirstOf, NoneOf}
-use Rattle.laws.specs.StreamRows.{written, Begins, AllTree, FaultAt, recordOrder, StreamRefused, StreamFine, buildOrder, BuildRow}
+use Rattle.laws.specs.StreamCauses.{written, Begins, AllTree, FaultAt, recordOrder, StreamRefused, StreamFine, buildOrder, BuildCause}
 use Rattle.laws.proofs.Lists.{only}
 use Rattle.laws.proofs.Replies.{refused-inj, refused-not-answer, Passes, passes-append, answered, answers, unless-append, Fits, ends, tests, refused-first, passes-none, none-passes}
 use Rattle.laws.proofs.StreamPlaces.{firstRecord, first-whole, not-cut, place-here, place-first, place-after, written-first, records-cons, Further, places-ordered, tree-kind, all-tree-snoc, Counted, counted-snoc}
@@ -29,7 +29,7 @@ use Rattle.laws.proofs.QueryFaults.{no-query-judged, head-judged, query
 abbrev FineFrom : List StreamRecord → List ℕ → Type 0
 FineFrom before bytes = (later : List StreamRecord) (rest : List ℕ) → Begins bytes later rest → NoneOf recordOrder (FaultAt (before ++ later) rest)
 
--- n is the first number whose row applies at the first place with a fault from this one on
+-- n is the first number whose cause applies at the first place with a fault from this one on
 record RefusedFrom (before : List StreamRecord) (bytes : List ℕ) (n : ℕ) : Type 0 where
   later : List StreamRecord
   rest : List ℕ
@@ -38,7 +38,7 @@ record RefusedFrom (before : List StreamRecord) (bytes : List ℕ) (n : ℕ) : T
   none-earlier : (earlier middle : List StreamRecord) → later ≡ earlier ++ middle → (middle ≡ [] → ⊥)
       → NoneOf recordOrder (FaultAt (before ++ earlier) (written middle ++ rest))
 
--- from this place on every test passes and no row applies, or both give n first
+-- from this place on every test passes and no cause applies, or both give n first
 data Outcome (before : List StreamRecord) (bytes : List ℕ) (ts : List Test) : Type 0 where
   all-fine : Passes ts → FineFrom before bytes → Outcome before bytes ts
   first-refused : (n : ℕ) → FailsFirst ts n → RefusedFrom before bytes n → Outcome before bytes ts
@@ -209,7 +209,7 @@ module _ (input : List ℕ) (workLength tableLength : ℕ) where
   abbrev given : Head × List Record
   given = (headFrom input, madeFrom input)
 
-  -- after the stream, rows 5 and 6
+  -- after the stream, causes 5 and 6
   abbrev spaceTests : List Test
   spaceTests =
       (5, leb (workFor input) workLength)
@@ -227,8 +227,8 @@ module _ (input : List ℕ) (workLength tableLength : ℕ) where
   build-fails : (n : ℕ) → FailsFirst (streamTests input) n → build input workLength tableLength ≡ refused n
   build-fails n f = build-tests ∙ fails-refused (streamTests input ++ spaceTests) n given (fails-append (streamTests input) spaceTests n f)
 
-  space-fits : Fits (BuildRow input workLength tableLength) spaceTests buildOrder
-  space-fits = tests (λ e. inl (refl, work .0 e)) row-five (tests (λ e. inr (refl, table .0 e)) row-six ends)
+  space-fits : Fits (BuildCause input workLength tableLength) spaceTests buildOrder
+  space-fits = tests (λ e. inl (refl, work .0 e)) cause-five (tests (λ e. inr (refl, table .0 e)) cause-six ends)
     where
       work : Fails (leb (workFor input) workLength) (workLength < workFor input)
       work = fails-at-most (workFor input) workLength
@@ -237,23 +237,23 @@ module _ (input : List ℕ) (workLength tableLength : ℕ) where
           ((tableLength < length (madeFrom input)) ⊎ (60000 < length (madeFrom input)))
       table = fails-and (fails-at-most (length (madeFrom input)) tableLength) (fails-at-most (length (madeFrom input)) 60000)
 
-      row-five : BuildRow input workLength tableLength 5 → leb (workFor input) workLength ≡ false
-      row-five (inl f) = work .1 (f .1)
-      row-five (inr f) = absurd (omega (arith, f .0))
+      cause-five : BuildCause input workLength tableLength 5 → leb (workFor input) workLength ≡ false
+      cause-five (inl f) = work .1 (f .1)
+      cause-five (inr f) = absurd (omega (arith, f .0))
 
-      row-six : BuildRow input workLength tableLength 6 → leb (length (madeFrom input)) tableLength && leb (length (madeFrom input)) 60000 ≡ false
-      row-six (inl f) = absurd (omega (arith, f .0))
-      row-six (inr f) = table .1 (f .1)
+      cause-six : BuildCause input workLength tableLength 6 → leb (length (madeFrom input)) tableLength && leb (length (madeFrom input)) 60000 ≡ false
+      cause-six (inl f) = absurd (omega (arith, f .0))
+      cause-six (inr f) = table .1 (f .1)
 
-  -- the number that a build gives is the first in the paper's order whose row of the table applies
+  -- the number that a build gives is the first in the paper's order whose cause applies
   pub build-refused : (n : ℕ)
       → (build input workLength tableLength ≡ refused n)
-      ↔ (StreamRefused input n ⊎ (StreamFine input × FirstOf buildOrder (BuildRow input workLength tableLength) n))
+      ↔ (StreamRefused input n ⊎ (StreamFine input × FirstOf buildOrder (BuildCause input workLength tableLength) n))
   build-refused n = by-stream (stream-outcome input)
     where
       by-stream : Outcome [] input (streamTests input)
           → (build input workLength tableLength ≡ refused n)
-          ↔ (StreamRefused input n ⊎ (StreamFine input × FirstOf buildOrder (BuildRow input workLength tableLength) n))
+          ↔ (StreamRefused input n ⊎ (StreamFine input × FirstOf buildOrder (BuildCause input workLength tableLength) n))
       by-stream (all-fine p f) =
           let space = refused-first given n space-fits in (
             λ e. inr (f, space .0 (sym (build-passes p) ∙ e)),
@@ -264,14 +264,14 @@ module _ (input : List ℕ) (workLength tableLength : ℕ) where
         ⊎-elim (λ t. build-fails m p ∙ ap refused (refused-same (stream-refused s) t)) (λ g. absurd (refused-not-fine (stream-refused s) (g .0))),
       )
 
-  -- it answers exactly where no row applies
+  -- it answers exactly where no cause applies
   pub build-answers : (build input workLength tableLength ≡ answer (headFrom input, madeFrom input))
-      ↔ (StreamFine input × NoneOf buildOrder (BuildRow input workLength tableLength))
+      ↔ (StreamFine input × NoneOf buildOrder (BuildCause input workLength tableLength))
   build-answers = by-stream (stream-outcome input)
     where
       by-stream : Outcome [] input (streamTests input)
           → (build input workLength tableLength ≡ answer (headFrom input, madeFrom input))
-          ↔ (StreamFine input × NoneOf buildOrder (BuildRow input workLength tableLength))
+          ↔ (StreamFine input × NoneOf buildOrder (BuildCause input workLength tableLength))
       by-stream (all-fine p f) = (
         λ e. (f, passes-none space-fits (answered spaceTests (sym (build-passes p) ∙ e) .0)),
         λ g. build-passes p ∙ answers spaceTests given (none-passes space-fits (g .1)),

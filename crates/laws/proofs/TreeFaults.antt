@@ -1,4 +1,4 @@
--- A tree record, and the tree's end: the tests there against the rows that may apply there, where the records before passed theirs.
+-- A tree record, and the tree's end: the tests there against the causes that may apply there, where the records before passed theirs.
 use mathlib.Core.Path.{_≡_, refl, ap}
 use mathlib.Core.Logic.{inl, inr}
 use mathlib.Core.Bool.{true, false, not, _||_, true≢false, false≢true}
@@ -12,36 +12,36 @@ use Rattle.paper.specs.Lists.{isNil}
 use Rattle.paper.specs.Stream.{bodyLength, StreamRecord, number}
 use Rattle.paper.specs.Tree.{unjoined}
 use Rattle.paper.specs.Refusals.{Test, treeTests, treeEndTests}
-use Rattle.laws.specs.StreamRows.{written, ofKind, TreeKind, AllTree, TreeEnds, QueryFault, SaidTwice, InQuery, FaultAt, recordOrder}
-use Rattle.laws.specs.StreamRows.{ManyNodes, kind-met, TreeFault, cut-in-record, label-over, few-unjoined, no-node, not-one-subtree}
+use Rattle.laws.specs.StreamCauses.{written, ofKind, TreeKind, AllTree, TreeEnds, QueryFault, SaidTwice, InQuery, FaultAt, recordOrder}
+use Rattle.laws.specs.StreamCauses.{ManyNodes, kind-met, TreeFault, cut-in-record, label-over, few-unjoined, no-node, not-one-subtree}
 use Rattle.laws.proofs.Lists.{here}
 use Rattle.laws.proofs.Judged.{Judged, judged-none, judged-skip, judged-test}
 use Rattle.laws.proofs.StreamPlaces.{firstRecord, cut, not-cut, Counted}
 
--- ---- what each row of a place says
-pub row-two : {before : List StreamRecord} {bytes : List ℕ} → FaultAt before bytes 2 → AllTree before × ManyNodes before bytes
-row-two (inl f) = (f .1, f .2)
-row-two (inr (inl f)) = absurd (omega arith)
-row-two (inr (inr (inl f))) = absurd (omega arith)
-row-two (inr (inr (inr f))) = absurd (omega arith)
+-- ---- what each cause of a place says
+pub cause-two : {before : List StreamRecord} {bytes : List ℕ} → FaultAt before bytes 2 → AllTree before × ManyNodes before bytes
+cause-two (inl f) = (f .1, f .2)
+cause-two (inr (inl f)) = absurd (omega arith)
+cause-two (inr (inr (inl f))) = absurd (omega arith)
+cause-two (inr (inr (inr f))) = absurd (omega arith)
 
-pub row-one : {before : List StreamRecord} {bytes : List ℕ} → FaultAt before bytes 1 → AllTree before × TreeFault before bytes
-row-one (inl f) = absurd (omega arith)
-row-one (inr (inl f)) = (f .1, f .2)
-row-one (inr (inr (inl f))) = absurd (omega arith)
-row-one (inr (inr (inr f))) = absurd (omega arith)
+pub cause-one : {before : List StreamRecord} {bytes : List ℕ} → FaultAt before bytes 1 → AllTree before × TreeFault before bytes
+cause-one (inl f) = absurd (omega arith)
+cause-one (inr (inl f)) = (f .1, f .2)
+cause-one (inr (inr (inl f))) = absurd (omega arith)
+cause-one (inr (inr (inr f))) = absurd (omega arith)
 
-pub row-three : {before : List StreamRecord} {bytes : List ℕ} → FaultAt before bytes 3 → InQuery before bytes QueryFault
-row-three (inl f) = absurd (omega arith)
-row-three (inr (inl f)) = absurd (omega arith)
-row-three (inr (inr (inl f))) = f .1
-row-three (inr (inr (inr f))) = absurd (omega arith)
+pub cause-three : {before : List StreamRecord} {bytes : List ℕ} → FaultAt before bytes 3 → InQuery before bytes QueryFault
+cause-three (inl f) = absurd (omega arith)
+cause-three (inr (inl f)) = absurd (omega arith)
+cause-three (inr (inr (inl f))) = f .1
+cause-three (inr (inr (inr f))) = absurd (omega arith)
 
-pub row-four : {before : List StreamRecord} {bytes : List ℕ} → FaultAt before bytes 4 → InQuery before bytes SaidTwice
-row-four (inl f) = absurd (omega arith)
-row-four (inr (inl f)) = absurd (omega arith)
-row-four (inr (inr (inl f))) = absurd (omega arith)
-row-four (inr (inr (inr f))) = f .1
+pub cause-four : {before : List StreamRecord} {bytes : List ℕ} → FaultAt before bytes 4 → InQuery before bytes SaidTwice
+cause-four (inl f) = absurd (omega arith)
+cause-four (inr (inl f)) = absurd (omega arith)
+cause-four (inr (inr (inl f))) = absurd (omega arith)
+cause-four (inr (inr (inr f))) = f .1
 
 -- ---- a tree record
 tree-body : (k : ℕ) → TreeKind k → bodyLength k ≡ 1
@@ -89,14 +89,14 @@ module _ (before : List StreamRecord) (all : AllTree before) (counted : Counted 
   after-whole (label ∷ rest) h =
       judged-test (λ e. inr (inl (refl, all, label-over k label rest refl kind (leb-false label 63 (rw (label-is label rest) at e)))))
       (λ l. judged-test (λ e. inr (inl (refl, all, branch-short (label ∷ rest) e)))
-      (λ u. judged-skip (λ f. no-tree-fault label rest (leb-true label 63 (rw (label-is label rest) at l)) u (row-one f .1))
-      (judged-skip (λ f. not-in-query (label ∷ rest) (row-three f)) (judged-skip (λ f. not-in-query (label ∷ rest) (row-four f)) judged-none))))
+      (λ u. judged-skip (λ f. no-tree-fault label rest (leb-true label 63 (rw (label-is label rest) at l)) u (cause-one f .1))
+      (judged-skip (λ f. not-in-query (label ∷ rest) (cause-three f)) (judged-skip (λ f. not-in-query (label ∷ rest) (cause-four f)) judged-none))))
 
-  -- the tests of a tree record judge as its rows do
+  -- the tests of a tree record judge as its causes do
   pub tree-judged : (more : List ℕ) → Judged (FaultAt before (k ∷ more)) (treeTests before (firstRecord k more)) recordOrder
   tree-judged more =
       judged-test (λ e. inl (refl, all, kind-met k more refl kind (ltb-false (length before) 4095 e)))
-      (λ few. judged-skip (λ f. no-many-nodes more (ltb-true (length before) 4095 few) (row-two f .1))
+      (λ few. judged-skip (λ f. no-many-nodes more (ltb-true (length before) 4095 few) (cause-two f .1))
       (judged-test (λ e. inr (inl (refl, all, cut-in-record k more refl kind (cut k more e))))
       (λ w. after-whole more (rw (tree-body k kind) at (not-cut k more w)))))
 
@@ -119,11 +119,11 @@ module _ (before : List StreamRecord) (bytes : List ℕ) (all : AllTree before) 
   not-one : eqb (length (unjoined before)) 1 ≡ false → ofKind 1 before ≡ ofKind 2 before + 1 → ⊥
   not-one e h = eqb-false (length (unjoined before)) 1 e (omega (arith, counted))
 
-  -- rows 2 and 1 where the tree ends; 3 and 4 are for the query to judge
+  -- causes 2 and 1 where the tree ends; 3 and 4 are for the query to judge
   pub end-judged : {ts : List Test} → Judged (FaultAt before bytes) ts (3 ∷ 4 ∷ [])
       → Judged (FaultAt before bytes) (treeEndTests before ++ ts) recordOrder
   end-judged j =
-      judged-skip (λ f. met-no-tree-kind (row-two f .1))
+      judged-skip (λ f. met-no-tree-kind (cause-two f .1))
       (judged-test (λ e. inr (inl (refl, all, no-node (is-nil before e) ends)))
       (λ some. judged-test (λ e. inr (inl (refl, all, not-one-subtree (not-one e) ends)))
-      (λ one. judged-skip (λ f. no-end-fault some (eqb-true (length (unjoined before)) 1 one) (row-one f .1)) j)))
+      (λ one. judged-skip (λ f. no-end-fault some (eqb-true (length (unjoined before)) 1 one) (cause-one f .1)) j)))

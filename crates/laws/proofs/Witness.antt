@@ -18,7 +18,7 @@ use Rattle.laws.proofs.BuiltSets.{built-right}
 use Rattle.laws.proofs.FixingsRight.{built-fixings, used-enough}
 use Rattle.laws.proofs.Lists.{both-true, here, only}
 use Rattle.laws.proofs.Replies.{Passes, answers}
-use Rattle.laws.proofs.TestedRows.{different}
+use Rattle.laws.proofs.TestedCauses.{different}
 
 -- B followed by Q, and a lent table with three entries more than are needed
 abbrev input : List ℕ

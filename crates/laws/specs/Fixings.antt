@@ -12,7 +12,7 @@ use Rattle.paper.specs.Records.{listings, usedOf, listing}
 use Rattle.laws.specs.Plain.{Record, Head}
 use Rattle.paper.specs.Questions.{questionWork, fixedSet}
 use Rattle.paper.specs.Refusals.{Reply, refused, answer, isOpen, fix, over}
-use Rattle.laws.specs.QuestionRows.{Sound}
+use Rattle.laws.specs.QuestionCauses.{Sound}
 
 -- the rows with node n at index i, in order, that place blank
 abbrev pub picked : ℕ → ℕ → List Row → List Row

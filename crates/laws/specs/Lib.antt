@@ -2,8 +2,8 @@ pub mod Plain
 pub mod Numbered
 pub mod RowSets
 pub mod First
-pub mod StreamRows
-pub mod QuestionRows
+pub mod StreamCauses
+pub mod QuestionCauses
 pub mod Said
 pub mod Fixings
 pub mod Built

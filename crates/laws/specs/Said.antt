@@ -10,7 +10,7 @@ use Rattle.paper.specs.Row.{Row, blank}
 use Rattle.paper.specs.Questions.{questionWork, marksOf}
 use Rattle.paper.specs.Refusals.{answer, isOpen, count, rowByNumber, member, project}
 use Rattle.laws.specs.Plain.{Record, Head}
-use Rattle.laws.specs.QuestionRows.{WrongEntry}
+use Rattle.laws.specs.QuestionCauses.{WrongEntry}
 
 -- some row of the list has the node at the index
 abbrev pub StandsIn : ℕ → ℕ → List Row → Type 0

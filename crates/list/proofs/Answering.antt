@@ -23,7 +23,7 @@ use Rattle.laws.proofs.BuiltSets.{built-good, built-is, built-right}
 use Rattle.laws.proofs.GoodSets.{used-over}
 use Rattle.laws.proofs.Replies.{answer-inj, refused-inj, refused-not-answer}
 use Rattle.laws.proofs.SoundTest.{is-sound}
-use Rattle.build.specs.Face.{Builds}
+use Rattle.building.specs.Face.{Builds}
 use Rattle.sound.specs.Face.{Counts}
 use Rattle.list.specs.declared.handed.Handed.{Handed}
 use Rattle.list.specs.declared.page.Page.{Page}

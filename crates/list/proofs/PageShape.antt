@@ -1,6 +1,6 @@
 -- The struct `Page`, as the walks take a state: its field `going`, and the number of the next row.
 use mathlib.Core.Path.{refl}
-use Rattle.table.proofs.States.{Field, Shape}
+use Rattle.walks.proofs.States.{Field, Shape}
 use Rattle.list.proofs.page.Page as P
 use Rattle.list.proofs.page.Page.Laws as P′
 

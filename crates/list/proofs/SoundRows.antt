@@ -12,7 +12,7 @@ use Rattle.paper.specs.declared.Set.the-variants.{Empty, Record as At, Unit as 
 use Rattle.paper.specs.Records.{listing, listings, setRows, usedOf}
 use Rattle.paper.specs.Row.{Row}
 use Rattle.paper.specs.Sound.{mostRows}
-use Rattle.laws.specs.QuestionRows.{SetFits, Sound}
+use Rattle.laws.specs.QuestionCauses.{SetFits, Sound}
 use Rattle.laws.proofs.SoundAnswers.{listing-shaped}
 
 module _ (h : Head) (table : List Record) (S : Sound h table) where

@@ -18,7 +18,7 @@ use Rattle.paper.specs.Questions.{countOf, rowNumbered}
 use Rattle.paper.specs.Records.{listing}
 use Rattle.paper.specs.Refusals.{Reply, answer, outputAfter, over, rowByNumber, rowTests}
 use Rattle.paper.specs.Row.{Row}
-use Rattle.laws.specs.QuestionRows.{Sound}
+use Rattle.laws.specs.QuestionCauses.{Sound}
 use Rattle.laws.proofs.Replies.{answers}
 use Rattle.laws.proofs.SoundTest.{sound-is}
 use Rattle.row.specs.Face.{Numbers}

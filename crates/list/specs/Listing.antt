@@ -21,7 +21,7 @@ use Rattle.list.specs.Text.{factText, linesText, programText, recordsWor
 -- the built set, or one that lists nothing
 abbrev pub headOf : Built → Head
 headOf (BuiltIs.Set h) = h
-headOf (BuiltIs.Refused why) = record { nodes = 0; arity = 0; places = 0; used = 0; set = SetIs.Empty }
+headOf (BuiltIs.Refused why) = record { nodes = 0; arity = 0; open_places = 0; used = 0; set = SetIs.Empty }
 
 -- so many bytes of the text are handed on, and those that wait are the next ones, up to the end of `far`
 pub record Tells (whole far : List ℕ) (t : Page) (text : List ℕ) : Type 0 where

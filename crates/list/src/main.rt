@@ -32,7 +32,7 @@ fn head_of(built: Built) -> Head
         Built::Refused(_) => Head {
             nodes: 0,
             arity: 0,
-            places: Flag::NONE,
+            open_places: Flag::NONE,
             used: 0,
             set: Set::Empty,
         },
@@ -75,7 +75,7 @@ fn list(input: &[u8], text: &mut [u8]) -> Page
     };
     let mut table: [Record; 2000] = [blank; 2000];
     let mut work: [u64; 16384] = [0; 16384];
-    let built = build::build(input, &mut work, &mut table);
+    let built = building::build(input, &mut work, &mut table);
     let head = head_of(built);
     let counted = sound::count(head, &table, &mut work);
     let s = open_page(built, counted, &mut *text);

@@ -13,7 +13,7 @@ use Rattle.paper.specs.Questions.{isListed}
 use Rattle.paper.specs.Records.{listings, recordRows}
 use Rattle.paper.specs.Row.{Row, blank, products}
 use Rattle.paper.specs.Sound.{entry}
-use Rattle.laws.specs.QuestionRows.{IsProduct, IsSingle, IsUnion, SoundAt}
+use Rattle.laws.specs.QuestionCauses.{IsProduct, IsSingle, IsUnion, SoundAt}
 use Rattle.laws.proofs.Listings.{listings-at, listings-first}
 use Rattle.laws.proofs.Shaped.{kind-product, kind-single, kind-union, product-rows, shaped-all, single-rows, union-rows}
 use Rattle.laws.proofs.Shapes.{Shape, shape-few}

@@ -24,7 +24,7 @@ use Rattle.paper.specs.Records.{listing, listings, setRows, usedOf}
 use Rattle.paper.specs.Refusals.{Reply, Test, answer, entriesFit, member, refused, unless, workAfter}
 use Rattle.paper.specs.Row.{Row, blank}
 use Rattle.paper.specs.Sound.{sound}
-use Rattle.laws.specs.QuestionRows.{SetFits, Sound}
+use Rattle.laws.specs.QuestionCauses.{SetFits, Sound}
 use Rattle.laws.proofs.Lists.{same-refl}
 use Rattle.sound.specs.Face.{Weighs}
 use Rattle.sound.proofs.Answered.{refused-reply, refused-work, sound-behind, sound-reply, sound-room, sound-set}
@@ -86,7 +86,7 @@ module _ (h : Head) (table : List Record) (work : List ℕ) (row : Row) where
   -- unit does, where the row fits
   unit-lists : Sound h table → length row ≡ h .arity → entriesFit h 0 row ≡ true → h .set ≡ unit → listedBy unit ≡ true
   unit-lists good l f is =
-      let none : h .places ≡ 0 = subst (SetFits h (usedOf h table)) is (good .set) in
+      let none : h .open_places ≡ 0 = subst (SetFits h (usedOf h table)) is (good .set) in
       let all : replicate (h .arity) blank ≡ row =
       ap (λ (n : ℕ). replicate n blank) (sym l) ∙ sym (restricted-none row) ∙ ap (λ (b : ℕ). restricted b row) (sym none) ∙ fits-restricted h row f in
       or-false (same (replicate (h .arity) blank) row) ∙ ap (λ (xs : Row). same xs row) all ∙ same-refl row

@@ -51,12 +51,12 @@ module _ (n rest i : ℕ) (row : Row) (h : i < length row) where
 
 -- ---- the entries of a row one after the other
 -- `rest` has the places that are left
-module _ (h : Head) (row : Row) (i rest : ℕ) (inside : i < length row) (left : (j : ℕ) → hasPlace (h .places) (i + j) ≡ hasPlace rest j) where
+module _ (h : Head) (row : Row) (i rest : ℕ) (inside : i < length row) (left : (j : ℕ) → hasPlace (h .open_places) (i + j) ≡ hasPlace rest j) where
   fits-here : entriesFit h i (drop i row) ≡ entryFits (eqb (rest % 2) 1) (h .nodes) (getD row i 0) && entriesFit h (suc i) (drop (suc i) row)
   fits-here = rw (drop-cons row i 0 inside, first)
     where
-      first : hasPlace (h .places) i ≡ eqb (rest % 2) 1
-      first = (let z : i ≡ i + 0 = omega arith in ap (hasPlace (h .places)) z) ∙ left 0
+      first : hasPlace (h .open_places) i ≡ eqb (rest % 2) 1
+      first = (let z : i ≡ i + 0 = omega arith in ap (hasPlace (h .open_places)) z) ∙ left 0
 
   pub fits-not : entryFits (eqb (rest % 2) 1) (h .nodes) (getD row i 0) ≡ false → entriesFit h i (drop i row) ≡ false
   fits-not e = fits-here ∙ ap (λ (c : Bool). c && entriesFit h (suc i) (drop (suc i) row)) e
@@ -65,5 +65,5 @@ module _ (h : Head) (row : Row) (i rest : ℕ) (inside : i < length row) (left :
       → entriesFit h i (drop i row) ≡ entriesFit h (i + 1) (drop (i + 1) row)
   fits-more e = rw (add-one i) (fits-here ∙ ap (λ (c : Bool). c && entriesFit h (suc i) (drop (suc i) row)) e)
 
-  pub places-more : (j : ℕ) → hasPlace (h .places) (i + 1 + j) ≡ hasPlace (rest / 2) j
-  places-more j = (let z : i + 1 + j ≡ i + suc j = omega arith in ap (hasPlace (h .places)) z) ∙ left (suc j)
+  pub places-more : (j : ℕ) → hasPlace (h .open_places) (i + 1 + j) ≡ hasPlace (rest / 2) j
+  places-more j = (let z : i + 1 + j ≡ i + suc j = omega arith in ap (hasPlace (h .open_places)) z) ∙ left (suc j)

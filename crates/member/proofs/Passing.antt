@@ -16,7 +16,7 @@ use Rattle.paper.specs.Questions.{isListed}
 use Rattle.paper.specs.Records.{blankEntry, listing, listings, setRows, usedOf}
 use Rattle.paper.specs.Row.{Row}
 use Rattle.paper.specs.Sound.{entry}
-use Rattle.laws.specs.QuestionRows.{IsProduct, IsSingle, IsUnion, SetFits, SoundAt}
+use Rattle.laws.specs.QuestionCauses.{IsProduct, IsSingle, IsUnion, SetFits, SoundAt}
 use Rattle.member.specs.Driving.{Starts}
 use Rattle.member.specs.Pass.{Reads, State, Turns, answerOf, cell, lists, past}
 use Rattle.member.proofs.Cells.{listedAt, turn-lists}

@@ -174,23 +174,23 @@ stands-before n b [] more h = let none : b ≡ 0 = omega arith in rw none (stand
 stands-before n b (x ∷ xs) more h = rw (stands-before n (b / 2) xs more (omega (arith, pow-suc 2 (length xs))))
 
 -- ---- a row that fits is blank at the places that are not open
-fits-from : (h : Head) (row : Row) (i b : ℕ) → ((j : ℕ) → hasPlace (h .places) (i + j) ≡ hasPlace b j) → entriesFit h i row ≡ true
+fits-from : (h : Head) (row : Row) (i b : ℕ) → ((j : ℕ) → hasPlace (h .open_places) (i + j) ≡ hasPlace b j) → entriesFit h i row ≡ true
     → restricted b row ≡ row
 fits-from h [] i b same-places e = refl
 fits-from h (x ∷ xs) i b same-places e =
-    let first : hasPlace (h .places) i ≡ eqb (b % 2) 1 = (let z : i ≡ i + 0 = omega arith in ap (hasPlace (h .places)) z) ∙ same-places 0 in
-    let (here, others) = both-true (cond (hasPlace (h .places) i) (ltb x (h .nodes)) (eqb x blank)) (entriesFit h (suc i) xs) e in
+    let first : hasPlace (h .open_places) i ≡ eqb (b % 2) 1 = (let z : i ≡ i + 0 = omega arith in ap (hasPlace (h .open_places)) z) ∙ same-places 0 in
+    let (here, others) = both-true (cond (hasPlace (h .open_places) i) (ltb x (h .nodes)) (eqb x blank)) (entriesFit h (suc i) xs) e in
     cc (
       go (eqb (b % 2) 1) (rw first at here),
-      fits-from h xs (suc i) (b / 2) (λ j. (let z : suc i + j ≡ i + suc j = omega arith in ap (hasPlace (h .places)) z) ∙ same-places (suc j)) others,
+      fits-from h xs (suc i) (b / 2) (λ j. (let z : suc i + j ≡ i + suc j = omega arith in ap (hasPlace (h .open_places)) z) ∙ same-places (suc j)) others,
     )
   where
     go : (c : Bool) → cond c (ltb x (h .nodes)) (eqb x blank) ≡ true → cond c x blank ≡ x
     go true f = refl
     go false f = sym (eqb-true x blank f)
 
-pub fits-restricted : (h : Head) (row : Row) → entriesFit h 0 row ≡ true → restricted (h .places) row ≡ row
-fits-restricted h row e = fits-from h row 0 (h .places) (λ j. let z : 0 + j ≡ j = omega arith in rw z) e
+pub fits-restricted : (h : Head) (row : Row) → entriesFit h 0 row ≡ true → restricted (h .open_places) row ≡ row
+fits-restricted h row e = fits-from h row 0 (h .open_places) (λ j. let z : 0 + j ≡ j = omega arith in rw z) e
 
 -- with no open place it is all blank
 pub restricted-none : (row : Row) → restricted 0 row ≡ replicate (length row) blank

@@ -1,6 +1,6 @@
 -- The struct `State`, as the laws of `table` take a state: its fields `going` and `at`.
 use mathlib.Core.Path.{refl}
-use Rattle.table.proofs.States.{Shape, Field}
+use Rattle.walks.proofs.States.{Shape, Field}
 use Rattle.member.proofs.pass.State as S
 use Rattle.member.proofs.pass.State.Laws as S′
 

@@ -11,7 +11,7 @@ use Rattle.paper.specs.Questions.{isListed}
 use Rattle.paper.specs.Records.{listing}
 use Rattle.paper.specs.Refusals.{entriesFit}
 use Rattle.paper.specs.Row.{Row}
-use Rattle.laws.specs.QuestionRows.{Sound}
+use Rattle.laws.specs.QuestionCauses.{Sound}
 use Rattle.member.specs.Pass.{State, answerOf}
 use Rattle.member.specs.Rows.{padded}
 

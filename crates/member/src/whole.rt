@@ -30,7 +30,7 @@ fn entry_fits(open_place: bool, nodes: u16, entry: u16) -> bool
 fn entries_fit(head: Head, row: &[u16]) -> bool
     ensures { λ r. ⌜ r ≡ entriesFit head 0 (now (row .entry)) ⌝ }
 {
-    let mut rest = head.places;
+    let mut rest = head.open_places;
     let mut i = 0;
     while i < row.len() {
         if !entry_fits(rest % 2 == 1, head.nodes, row[i]) {

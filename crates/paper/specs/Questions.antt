@@ -78,7 +78,7 @@ fixedSet h table place n =
       record {
         nodes = h .nodes;
         arity = h .arity;
-        places = without (h .places) (place - 1);
+        open_places = without (h .open_places) (place - 1);
         used = length new;
         set = imageOf images (h .set);
       },

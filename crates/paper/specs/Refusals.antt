@@ -118,7 +118,7 @@ abbrev pub headFrom : List ℕ → Head
 headFrom input = record {
   nodes = nodesIn input;
   arity = queryIn input .arity;
-  places = allPlaces (queryIn input .arity);
+  open_places = allPlaces (queryIn input .arity);
   used = length (madeFrom input);
   set = (made (queryIn input) (treeIn input)) .1;
 }
@@ -144,12 +144,12 @@ program input =
 -- ---- the questions: 5, 11, 13, 7, 8, 9, 10, 6, 12, as far as they apply
 -- the place is one from 1 to the arity, and open
 abbrev pub isOpen : Head → ℕ → Bool
-isOpen h place = leb 1 place && (leb place (h .arity) && hasPlace (h .places) (place - 1))
+isOpen h place = leb 1 place && (leb place (h .arity) && hasPlace (h .open_places) (place - 1))
 
 -- from index i on, a member row has a node of the tree at each open place, and is blank at each fixed one
 abbrev pub entriesFit : Head → ℕ → Row → Bool
 entriesFit h i [] = true
-entriesFit h i (x ∷ xs) = cond (hasPlace (h .places) i) (ltb x (h .nodes)) (eqb x blank) && entriesFit h (suc i) xs
+entriesFit h i (x ∷ xs) = cond (hasPlace (h .open_places) i) (ltb x (h .nodes)) (eqb x blank) && entriesFit h (suc i) xs
 
 module _ (h : Head) (table : List Record) (workLength : ℕ) where
   abbrev pub askTests : List Test

@@ -53,8 +53,8 @@ fewRows n (rows ∷ more) = leb (length rows) n && fewRows n more
 -- a root is a used record with the open places as its flag; unit stands only with no open place
 abbrev pub soundSet : Head → List Record → Set → Bool
 soundSet h used empty = true
-soundSet h used unit = eqb (h .places) noPlace
-soundSet h used (at i) = ltb i (h .used) && eqb (entry used i .flag) (h .places)
+soundSet h used unit = eqb (h .open_places) noPlace
+soundSet h used (at i) = ltb i (h .used) && eqb (entry used i .flag) (h .open_places)
 
 abbrev pub sound : Head → List Record → Bool
 sound h table =
@@ -63,7 +63,7 @@ sound h table =
     ∷ leb (h .nodes) 4095
     ∷ leb 1 (h .arity)
     ∷ leb (h .arity) 4
-    ∷ ltb (h .places) (2 ^ h .arity)
+    ∷ ltb (h .open_places) (2 ^ h .arity)
     ∷ leb (h .used) 60000
     ∷ leb (h .used) (length table)
     ∷ soundRecords (h .arity) (h .nodes) [] (usedOf h table)

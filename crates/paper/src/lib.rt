@@ -19,11 +19,11 @@ pub enum Set {
     Record(u16),
 }
 
-// `places` is the open places, as a flag.
+// `open_places` is a flag.
 pub struct Head {
     pub nodes: u16,
     pub arity: u16,
-    pub places: u16,
+    pub open_places: u16,
     pub used: u16,
     pub set: Set,
 }

@@ -40,5 +40,5 @@ pub fn is_open(head: Head, place: u16) -> bool
     if head.arity < place {
         return false;
     }
-    has_place(head.places, (place - 1) as usize)
+    has_place(head.open_places, (place - 1) as usize)
 }

@@ -23,7 +23,7 @@ use Rattle.paper.specs.Questions.{marksOf}
 use Rattle.paper.specs.Records.{blankEntry, usedOf}
 use Rattle.paper.specs.Refusals.{Reply, Test, answer, isOpen, outputAfter, over, project, refused, unless, workAfter}
 use Rattle.paper.specs.Sound.{entry}
-use Rattle.laws.specs.QuestionRows.{IsProduct, IsSingle, IsUnion, SetFits, Sound}
+use Rattle.laws.specs.QuestionCauses.{IsProduct, IsSingle, IsUnion, SetFits, Sound}
 use Rattle.sound.specs.declared.Weighed.{Weighed}
 use Rattle.sound.specs.declared.Weighed.the-variants as WeighedIs
 use Rattle.sound.specs.Face.{Weighs}

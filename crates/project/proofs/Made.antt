@@ -10,7 +10,7 @@ use Rattle.paper.specs.declared.Record.{Record}
 use Rattle.paper.specs.Questions.{hasPlace}
 use Rattle.paper.specs.Row.{blank}
 use Rattle.paper.specs.Sound.{entry}
-use Rattle.laws.specs.QuestionRows.{IsProduct, IsSingle, IsUnion, Sound}
+use Rattle.laws.specs.QuestionCauses.{IsProduct, IsSingle, IsUnion, Sound}
 use Rattle.laws.specs.Said.{StandsIn}
 use Rattle.project.proofs.Operands.{product-lists, rows, shaped, single-lists, some-row, union-lists, used}
 use Rattle.project.proofs.Standing.{in-factor, in-product, stands-append, stands-single}

@@ -11,7 +11,7 @@ use Rattle.paper.specs.Lists.{_∈_}
 use Rattle.paper.specs.Records.{listings, recordRows, usedOf}
 use Rattle.paper.specs.Row.{Row, products, singleRow}
 use Rattle.paper.specs.Sound.{entry}
-use Rattle.laws.specs.QuestionRows.{IsProduct, IsSingle, IsUnion, Sound}
+use Rattle.laws.specs.QuestionCauses.{IsProduct, IsSingle, IsUnion, Sound}
 use Rattle.laws.proofs.Listings.{listings-at, listings-first}
 use Rattle.laws.proofs.Lists.{here}
 use Rattle.laws.proofs.Shaped.{product-rows, shaped-all, single-rows, union-rows}

@@ -15,7 +15,7 @@ use Rattle.paper.specs.declared.Record.{Record}
 use Rattle.paper.specs.Questions.{hasPlace}
 use Rattle.paper.specs.Records.{blankEntry, usedOf}
 use Rattle.paper.specs.Sound.{entry}
-use Rattle.laws.specs.QuestionRows.{Sound}
+use Rattle.laws.specs.QuestionCauses.{Sound}
 use Rattle.laws.proofs.Lists.{which}
 use Rattle.project.specs.Passing.{cellsAfter, handedOn, isMarked, kept, passed}
 use Rattle.project.proofs.Made.{Lists, Made, joined, made, single}

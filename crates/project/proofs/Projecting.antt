@@ -18,7 +18,7 @@ use Rattle.paper.specs.Lists.{countFrom, has}
 use Rattle.paper.specs.Questions.{hasPlace, marksOf, standsAt}
 use Rattle.paper.specs.Records.{listing, listings, setRows, usedOf}
 use Rattle.paper.specs.Refusals.{isOpen}
-use Rattle.laws.specs.QuestionRows.{SetFits, Sound}
+use Rattle.laws.specs.QuestionCauses.{SetFits, Sound}
 use Rattle.laws.specs.Said.{StandsIn}
 use Rattle.laws.proofs.Listed.{row-stands, stands-row}
 use Rattle.laws.proofs.Bits.{no-places}
@@ -52,11 +52,11 @@ module _ (h : Head) (table : List Record) (S : Sound h table) (place : ℕ) (ope
   abbrev i : ℕ
   i = place - 1
 
-  from-one : (leb 1 place ≡ true) × (leb place (h .arity) && hasPlace (h .places) i ≡ true)
-  from-one = both-true (leb 1 place) (leb place (h .arity) && hasPlace (h .places) i) opened
+  from-one : (leb 1 place ≡ true) × (leb place (h .arity) && hasPlace (h .open_places) i ≡ true)
+  from-one = both-true (leb 1 place) (leb place (h .arity) && hasPlace (h .open_places) i) opened
 
-  there : (leb place (h .arity) ≡ true) × (hasPlace (h .places) i ≡ true)
-  there = both-true (leb place (h .arity)) (hasPlace (h .places) i) (from-one .1)
+  there : (leb place (h .arity) ≡ true) × (hasPlace (h .open_places) i ≡ true)
+  there = both-true (leb place (h .arity)) (hasPlace (h .open_places) i) (from-one .1)
 
   pub inside : i < h .arity
   inside = omega (arith, leb-true 1 place (from-one .0), leb-true place (h .arity) (there .0), S .some-places)

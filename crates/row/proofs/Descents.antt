@@ -53,12 +53,12 @@ module _ (q : Asked) (table : List Record) (work : List ℕ) (a : Answerable q t
   sought-long = row-long lists-sought
 
   -- it is blank at a fixed place
-  pub sought-blank : (p : ℕ) → p < q .arity → hasPlace (q .places) p ≡ false → sought q table p ≡ blank
+  pub sought-blank : (p : ℕ) → p < q .arity → hasPlace (q .open_places) p ≡ false → sought q table p ≡ blank
   sought-blank p inside e = blank-at lists-sought p inside (ap (λ (b : ℕ). hasPlace b p) (a .root-flag) ∙ e)
 
 module _ (table : List Record) (s : State) where
   -- ---- a descent that begins, and one that goes down
-  pub at-start : Starting table s → s .at ≡ s .start → s .place < 4 → hasPlace (s .asked .places) (s .place) ≡ true → Standing table s
+  pub at-start : Starting table s → s .at ≡ s .start → s .place < 4 → hasPlace (s .asked .open_places) (s .place) ≡ true → Standing table s
   at-start starting here small has-it = record {
     place = small;
     used = omega (arith, starting .used);

@@ -17,7 +17,7 @@ use Rattle.paper.specs.Answers.{numberOf, saysWritten, told}
 use Rattle.paper.specs.Questions.{countOf, questionWork, rowNumbered}
 use Rattle.paper.specs.Refusals.{Reply, Test, answer, outputAfter, over, refused, rowByNumber, unless, workAfter}
 use Rattle.paper.specs.Row.{Row}
-use Rattle.laws.specs.QuestionRows.{Sound}
+use Rattle.laws.specs.QuestionCauses.{Sound}
 use Rattle.sound.specs.Counting.{rowsInSet}
 use Rattle.sound.specs.declared.Weighed.{Weighed}
 use Rattle.sound.specs.declared.Weighed.the-variants as WeighedIs

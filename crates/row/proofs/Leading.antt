@@ -13,7 +13,7 @@ use Rattle.paper.specs.Questions.{hasPlace}
 use Rattle.paper.specs.Records.{listings}
 use Rattle.paper.specs.Row.{Row, blank, merge, products, singleRow}
 use Rattle.paper.specs.Sound.{entry}
-use Rattle.laws.specs.QuestionRows.{IsProduct, IsSingle, IsUnion, SoundAt}
+use Rattle.laws.specs.QuestionCauses.{IsProduct, IsSingle, IsUnion, SoundAt}
 use Rattle.laws.proofs.Bits.{bit-sum}
 use Rattle.laws.proofs.Listings.{listings-at, listings-first}
 use Rattle.laws.proofs.Shaped.{product-rows, shaped-all, single-rows, union-rows}

@@ -12,7 +12,7 @@ use lib.Seq.{getD-set-other, getD-set-same}
 use Rattle.paper.specs.Questions.{hasPlace}
 use Rattle.paper.specs.Row.{blank}
 use Rattle.paper.specs.Sound.{entry}
-use Rattle.laws.specs.QuestionRows.{IsProduct, IsSingle, IsUnion}
+use Rattle.laws.specs.QuestionCauses.{IsProduct, IsSingle, IsUnion}
 use Rattle.row.specs.Descent.{Readable, Record, State, beginLower, flagAt, lower, lowerFrom, openFrom, placed, productSide, rowsAt, stepped, unionSide}
 use Rattle.row.specs.Descending.{Filled, Starting, Underway, rowsOf, sought, soughtRow, usedBy}
 use Rattle.row.proofs.Flags.{First, first-open}
@@ -126,10 +126,10 @@ module _ (table : List Record) (s : State) (work : List ℕ) (going : s .going �
 
   -- ---- a node placed
   abbrev next : ℕ
-  next = openFrom (s .asked .places) (s .place + 1)
+  next = openFrom (s .asked .open_places) (s .place + 1)
 
-  next-first : First (s .asked .places) (s .place + 1) next
-  next-first = first-open (s .asked .places) (s .place + 1) (omega (arith, u .standing .place))
+  next-first : First (s .asked .open_places) (s .place + 1) next
+  next-first = first-open (s .asked .open_places) (s .place + 1) (omega (arith, u .standing .place))
 
   module _ (node : ℕ) (is-node : node ≡ sought (s .asked) table (s .place)) where
     -- the entries before the next place: those before this one, the node, and blanks

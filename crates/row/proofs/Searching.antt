@@ -16,7 +16,7 @@ use Rattle.paper.specs.Questions.{countOf, rowNumbered}
 use Rattle.paper.specs.Records.{listings, setRows, usedOf}
 use Rattle.paper.specs.Refusals.{over}
 use Rattle.paper.specs.Row.{Row, blank}
-use Rattle.laws.specs.QuestionRows.{SetFits, Sound}
+use Rattle.laws.specs.QuestionCauses.{SetFits, Sound}
 use Rattle.sound.specs.Counting.{rowsInSet}
 use Rattle.sound.specs.Weights.{weights}
 use Rattle.sound.proofs.Cells.{cell, cell-rows, weighed-length}
@@ -78,7 +78,7 @@ module _ (h : Head) (table : List Record) (work : List ℕ) (S : Sound h table) 
       long = refl;
       before = λ p inside below.
           blanks-blank p
-          ∙ sym (sought-blank (s .asked) table weighed answerable p inside (first-open (h .places) 0 (omega arith) .none p (omega arith) below));
+          ∙ sym (sought-blank (s .asked) table weighed answerable p inside (first-open (h .open_places) 0 (omega arith) .none p (omega arith) below));
       behind = λ p above. blanks-blank p;
     }
 
@@ -87,7 +87,7 @@ module _ (h : Head) (table : List Record) (work : List ℕ) (S : Sound h table) 
         let small : s .place < 4 = ltb-true (s .place) 4 going in
         record {
           answerable = answerable;
-          standing = at-start table s starting refl small (first-open (h .places) 0 (omega arith) .has small);
+          standing = at-start table s starting refl small (first-open (h .open_places) 0 (omega arith) .has small);
           starting = starting;
           filled = filled;
         }
@@ -102,7 +102,7 @@ module _ (h : Head) (table : List Record) (work : List ℕ) (S : Sound h table) 
 
   -- ---- every set
   -- unit has no open place
-  unit-stops : SetFits h (usedOf h table) SetIs.Unit → ltb (openFrom (h .places) 0) 4 ≡ false
+  unit-stops : SetFits h (usedOf h table) SetIs.Unit → ltb (openFrom (h .open_places) 0) 4 ≡ false
   unit-stops fits = ap (λ (b : ℕ). ltb (openFrom b 0) 4) fits
 
   count-is : (x : Set) → SetFits h (usedOf h table) x → rowsInSet weighed x ≡ length (setRows (h .arity) lists x)

@@ -1,6 +1,6 @@
 -- The struct `State`, as the law of `table` takes a state: its field `going`, and the record that is read next.
 use mathlib.Core.Path.{refl}
-use Rattle.table.proofs.States.{Field, Shape}
+use Rattle.walks.proofs.States.{Field, Shape}
 use Rattle.row.proofs.state.State as S
 use Rattle.row.proofs.state.State.Laws as S′
 

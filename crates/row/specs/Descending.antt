@@ -9,7 +9,7 @@ use Rattle.paper.specs.Questions.{hasPlace}
 use Rattle.paper.specs.Records.{listings}
 use Rattle.paper.specs.Row.{Row, blank}
 use Rattle.paper.specs.Sound.{entry}
-use Rattle.laws.specs.QuestionRows.{SoundAt}
+use Rattle.laws.specs.QuestionCauses.{SoundAt}
 use Rattle.sound.specs.Weights.{weight}
 use Rattle.row.specs.Descent.{Asked, Record, State}
 
@@ -44,7 +44,7 @@ pub record Answerable (q : Asked) (table : List Record) (work : List ℕ) : Type
   pub records : (i : ℕ) → i < q .used → SoundAt (q .arity) nodes (usedBy q table) i (entry (usedBy q table) i)
   pub weights : (i : ℕ) → i < q .used → getD work i 0 ≡ weight (rowsOf (q .arity) (usedBy q table) i) (entry (usedBy q table) i)
   pub root-used : q .root < q .used
-  pub root-flag : entry (usedBy q table) (q .root) .flag ≡ q .places
+  pub root-flag : entry (usedBy q table) (q .root) .flag ≡ q .open_places
   pub numbered : q .number < length (rowsOf (q .arity) (usedBy q table) (q .root))
 
 -- the entry sought is that of row `number` of record `at`
@@ -58,7 +58,7 @@ pub record Standing (table : List Record) (s : State) : Type 0 where
 -- the start has the open places, and lists the row asked for. The descent stands there, at this row, or below
 pub record Starting (table : List Record) (s : State) : Type 0 where
   pub used : s .start < s .asked .used
-  pub flag : entry (usedBy (s .asked) table) (s .start) .flag ≡ s .asked .places
+  pub flag : entry (usedBy (s .asked) table) (s .start) .flag ≡ s .asked .open_places
   pub number : s .listed < length (rowsOf (s .asked .arity) (usedBy (s .asked) table) (s .start))
   pub row : rowOf (s .asked .arity) (usedBy (s .asked) table) (s .start) (s .listed) ≡ soughtRow (s .asked) table
   pub below : s .at ≤ s .start

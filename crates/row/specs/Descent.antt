@@ -43,7 +43,7 @@ beginLower t i n = cond (eqb (t .at) (t .start)) (lowerFrom t i n i n) (lower t 
 -- the node stands at the place, and the next open place is sought from the start
 unfoldable pub placed : State → ℕ → State
 placed t node =
-    let next : ℕ = openFrom (t .asked .places) (t .place + 1) in
+    let next : ℕ = openFrom (t .asked .open_places) (t .place + 1) in
     record {
       at = t .start;
       number = t .listed;

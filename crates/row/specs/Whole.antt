@@ -45,13 +45,13 @@ atRoot q place = record {
 }
 
 abbrev pub refusedWith : Refusal → ℕ → State
-refusedWith why used = atRoot (record { number = 0; root = 0; arity = 0; used = used; places = noPlace; answer = WrittenIs.Refused why }) 4
+refusedWith why used = atRoot (record { number = 0; root = 0; arity = 0; used = used; open_places = noPlace; answer = WrittenIs.Refused why }) 4
 
 -- the first descent, for the first open place, from a root
 abbrev pub seeking : Head → ℕ → ℕ → State
 seeking h root number =
-    atRoot (record { number = number; root = root; arity = h .arity; used = h .used; places = h .places; answer = WrittenIs.Row })
-    (openFrom (h .places) 0)
+    atRoot (record { number = number; root = root; arity = h .arity; used = h .used; open_places = h .open_places; answer = WrittenIs.Row })
+    (openFrom (h .open_places) 0)
 
 -- 9, then 10
 unfoldable pub started : Head → List ℕ → ℕ → ℕ → State

@@ -1,14 +1,14 @@
 // Where the search for a row stands between two turns.
 use paper::Written;
 
-// What is asked for, which stays: row `number` of record `root`, that fills `places`, in a set of so many places and used records.
+// What is asked for, which stays: row `number` of record `root`, that fills `open_places`, in a set of so many places and used records.
 // `answer` is a refusal only where no turn is taken; the arity is then 0, so that nothing is written.
 pub(crate) struct Asked {
     pub(crate) number: u64,
     pub(crate) root: usize,
     pub(crate) arity: usize,
     pub(crate) used: usize,
-    pub(crate) places: u16,
+    pub(crate) open_places: u16,
     pub(crate) answer: Written,
 }
 

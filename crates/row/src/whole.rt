@@ -53,7 +53,7 @@ fn refused(why: Refusal, used: usize) -> State
         root: 0,
         arity: 0,
         used: used,
-        places: Flag::NONE,
+        open_places: Flag::NONE,
         answer: Written::Refused(why),
     };
     at_root(asked, 4)
@@ -77,10 +77,10 @@ fn start(head: Head, work: &[u64], number: u64, room: usize) -> State
         root: root_in(set),
         arity: arity,
         used: used,
-        places: head.places,
+        open_places: head.open_places,
         answer: Written::Row,
     };
-    at_root(asked, open_from(head.places, 0))
+    at_root(asked, open_from(head.open_places, 0))
 }
 
 // Where the set has been refused, the work stays as it is.

@@ -13,7 +13,7 @@ use Rattle.paper.specs.declared.Refusal.{Refusal}
 use Rattle.paper.specs.Answers.{numberOf}
 use Rattle.paper.specs.Questions.{questionWork}
 use Rattle.paper.specs.Refusals.{Reply, Test, answer, askTests, over, refused, unless, workAfter}
-use Rattle.laws.specs.QuestionRows.{Sound as SoundSet}
+use Rattle.laws.specs.QuestionCauses.{Sound as SoundSet}
 use Rattle.laws.proofs.Replies.{Passes, answered, refused-inj, refused-not-answer, unless-append}
 use Rattle.laws.proofs.SoundTest.{sound-is}
 use Rattle.sound.specs.Face.{Weighs}

@@ -12,7 +12,7 @@ use Rattle.paper.specs.Records.{listings, usedOf}
 use Rattle.paper.specs.Refusals.{over}
 use Rattle.paper.specs.Row.{Row}
 use Rattle.paper.specs.Sound.{entry}
-use Rattle.laws.specs.QuestionRows.{Sound}
+use Rattle.laws.specs.QuestionCauses.{Sound}
 use Rattle.laws.proofs.Listings.{length-listings}
 use Rattle.sound.specs.Steps.{rowsIn}
 use Rattle.sound.specs.Weights.{weight, weights, weightsFor}

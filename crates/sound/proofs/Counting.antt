@@ -15,7 +15,7 @@ use Rattle.paper.specs.Answers.{saysCounted}
 use Rattle.paper.specs.Questions.{countOf, questionWork}
 use Rattle.paper.specs.Records.{listings, setRows, usedOf}
 use Rattle.paper.specs.Refusals.{Reply, answer, count, over, workAfter}
-use Rattle.laws.specs.QuestionRows.{SetFits, Sound}
+use Rattle.laws.specs.QuestionCauses.{SetFits, Sound}
 use Rattle.sound.specs.Counting.{Finishes, rowsInSet}
 use Rattle.sound.specs.Face.{Counts, Weighs}
 use Rattle.sound.specs.Weights.{Weighed}

@@ -16,7 +16,7 @@ use Rattle.paper.specs.declared.Set.the-variants.{Empty as empty, Unit as unit,
 use Rattle.paper.specs.Records.{usedOf}
 use Rattle.paper.specs.Refusals.{Reply, answer, over, refused}
 use Rattle.paper.specs.Sound.{entry, sound}
-use Rattle.laws.specs.QuestionRows.{SetFits, Sound}
+use Rattle.laws.specs.QuestionCauses.{SetFits, Sound}
 use Rattle.laws.proofs.Lists.{both-true, iff-eq, which}
 use Rattle.laws.proofs.SoundTest.{is-sound, sound-is}
 use Rattle.laws.proofs.Tests.{Says, says-and, says-at-most, says-below, says-equal, says-nothing}
@@ -35,7 +35,7 @@ pub record HeadFits (h : Head) (entries : ℕ) : Type 0 where
   pub few-nodes : h .nodes ≤ 4095
   pub some-places : 1 ≤ h .arity
   pub few-places : h .arity ≤ 4
-  pub open-places : h .places < 2 ^ h .arity
+  pub open-below : h .open_places < 2 ^ h .arity
   pub few-used : h .used ≤ 60000
   pub used-there : h .used ≤ entries
 
@@ -47,18 +47,18 @@ says-head h entries =
     (says-and (says-at-most (h .nodes) 4095)
     (says-and (says-at-most 1 (h .arity))
     (says-and (says-at-most (h .arity) 4)
-    (says-and (says-below (h .places) (2 ^ h .arity))
+    (says-and (says-below (h .open_places) (2 ^ h .arity))
     (says-and (says-at-most (h .used) 60000) (says-and (says-at-most (h .used) entries) says-nothing))))))) (
       λ (a, (b, (c, (d, (e, (f, (g, u))))))). record {
         some-nodes = a;
         few-nodes = b;
         some-places = c;
         few-places = d;
-        open-places = e;
+        open-below = e;
         few-used = f;
         used-there = g;
       },
-      λ f. (f .some-nodes, (f .few-nodes, (f .some-places, (f .few-places, (f .open-places, (f .few-used, (f .used-there, tt))))))),
+      λ f. (f .some-nodes, (f .few-nodes, (f .some-places, (f .few-places, (f .open-below, (f .few-used, (f .used-there, tt))))))),
     )
 
 module _ (h : Head) (table : List Record) (work : List ℕ) where
@@ -99,9 +99,9 @@ module _ (h : Head) (table : List Record) (work : List ℕ) where
 
         says-set : (s : Set) → Says (setFits h weighed s) (SetFits h (usedOf h table) s)
         says-set empty = says-nothing
-        says-set unit = says-equal (h .places) 0
+        says-set unit = says-equal (h .open_places) 0
         says-set (at i) =
-            Iff·trans (says-and (says-below i (h .used)) (says-equal (flagIn (getD weighed i 0)) (h .places)))
+            Iff·trans (says-and (says-below i (h .used)) (says-equal (flagIn (getD weighed i 0)) (h .open_places)))
             (λ (l, f). (l, sym (flag-of i l) ∙ f), λ (l, f). (l, flag-of i l ∙ f))
 
       -- what passes is sound
@@ -114,7 +114,7 @@ module _ (h : Head) (table : List Record) (work : List ℕ) where
             few-nodes = head .few-nodes;
             some-places = head .some-places;
             few-places = head .few-places;
-            open-places = head .open-places;
+            open-below = head .open-below;
             few-used = head .few-used;
             used-there = head .used-there;
             records = λ i l. W .sound i l .test;
@@ -132,7 +132,7 @@ module _ (h : Head) (table : List Record) (work : List ℕ) where
             few-nodes = S .few-nodes;
             some-places = S .some-places;
             few-places = S .few-places;
-            open-places = S .open-places;
+            open-below = S .open-below;
             few-used = S .few-used;
             used-there = S .used-there;
           }

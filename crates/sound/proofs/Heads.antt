@@ -1,7 +1,7 @@
 -- What every question passes by value, as the laws of walks have it: a head, and what `weigh` tells.
 use Rattle.paper.proofs.Head as H
 use Rattle.paper.proofs.Head.Laws as H′
-use Rattle.table.proofs.Values.{Value, enum, struct}
+use Rattle.walks.proofs.Values.{Value, enum, struct}
 use Rattle.sound.proofs.Weighed as W
 use Rattle.sound.proofs.Weighed.Laws as W′
 

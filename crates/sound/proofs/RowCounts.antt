@@ -11,7 +11,7 @@ use Rattle.paper.specs.declared.Record.{Record}
 use Rattle.paper.specs.Records.{listings, recordRows}
 use Rattle.paper.specs.Row.{Row, merge, products}
 use Rattle.paper.specs.Sound.{entry}
-use Rattle.laws.specs.QuestionRows.{SoundAt}
+use Rattle.laws.specs.QuestionCauses.{SoundAt}
 use Rattle.laws.proofs.Listings.{listings-at, listings-first}
 use Rattle.laws.proofs.Shaped.{last-or, product-rows, single-rows, union-rows}
 

@@ -1,6 +1,6 @@
 -- The struct `State`, as the law of a loop that asks takes it (`table`): its field `going`, and which entry is read.
 use mathlib.Core.Path.{refl}
-use Rattle.table.proofs.States.{Field, Shape}
+use Rattle.walks.proofs.States.{Field, Shape}
 use Rattle.sound.proofs.state.State as S
 use Rattle.sound.proofs.state.State.Laws as S′
 

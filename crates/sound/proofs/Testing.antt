@@ -11,7 +11,7 @@ use lib.Dec.{eqb, leb, ltb}
 use lib.ListN.{getD, length}
 use Rattle.paper.specs.declared.Record.{Record}
 use Rattle.paper.specs.Sound.{apart, entry, mostRows}
-use Rattle.laws.specs.QuestionRows.{IsProduct, IsSingle, IsUnion}
+use Rattle.laws.specs.QuestionCauses.{IsProduct, IsSingle, IsUnion}
 use Rattle.laws.proofs.Lists.{both-true, which}
 use Rattle.laws.proofs.Tests.{Says, says-and, says-below, says-equal, says-nothing}
 use Rattle.sound.specs.Passing.{SoundRecord, Weighing}

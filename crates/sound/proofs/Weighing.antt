@@ -1,11 +1,11 @@
 -- A question calls `weigh`, in a walk by hand: what it hands over, and that it has what `weigh` takes.
 -- Assumes `Given`.
-use Rattle.table.proofs.Prelude.{ℕ, Lft, GName, Share, flft, Fml, SProp, ent, Fun, u64, sliceVal, nothing, Contract, Atoms, fullShare, URA, length, List}
-use Rattle.table.proofs.Prelude.{[], _∷_, Memory, Routine, Heap, Given, ‵, ⋆, _$_, _∵_, !, qed, move, join, fjoin, done}
-use Rattle.table.proofs.Entries.{Entry}
-use Rattle.table.proofs.Calls.{contract}
-use Rattle.table.proofs.Lending.{Mine, Seen, at-list}
-use Rattle.table.proofs.Values.{Good, owns-value}
+use Rattle.walks.proofs.Prelude.{ℕ, Lft, GName, Share, flft, Fml, SProp, ent, Fun, u64, sliceVal, nothing, Contract, Atoms, fullShare, URA, length, List}
+use Rattle.walks.proofs.Prelude.{[], _∷_, Memory, Routine, Heap, Given, ‵, ⋆, _$_, _∵_, !, qed, move, join, fjoin, done}
+use Rattle.walks.proofs.Entries.{Entry}
+use Rattle.walks.proofs.Calls.{contract}
+use Rattle.walks.proofs.Lending.{Mine, Seen, at-list}
+use Rattle.walks.proofs.Values.{Good, owns-value}
 use Rattle.paper.specs.declared.Head.{Head}
 use Rattle.paper.specs.declared.Record.{Record}
 use Rattle.sound.proofs.Heads.{head}

@@ -8,7 +8,7 @@ use lib.ListN.{length, getD, take}
 use Rattle.paper.specs.declared.Record.{Record}
 use Rattle.paper.specs.Records.{listings}
 use Rattle.paper.specs.Sound.{entry, mostRows}
-use Rattle.laws.specs.QuestionRows.{SoundAt}
+use Rattle.laws.specs.QuestionCauses.{SoundAt}
 use Rattle.sound.specs.Steps.{State}
 use Rattle.sound.specs.Weights.{weight}
 

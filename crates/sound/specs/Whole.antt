@@ -24,7 +24,7 @@ headFits h entries =
     ∷ leb (h .nodes) 4095
     ∷ leb 1 (h .arity)
     ∷ leb (h .arity) 4
-    ∷ ltb (h .places) (2 ^ h .arity)
+    ∷ ltb (h .open_places) (2 ^ h .arity)
     ∷ leb (h .used) 60000
     ∷ leb (h .used) entries
     ∷ [])
@@ -46,8 +46,8 @@ begun h entries cells = record {
 -- the clause that looks at the set, over the weights
 abbrev pub setFits : Head → List ℕ → Set → Bool
 setFits h weights empty = true
-setFits h weights unit = eqb (h .places) noPlace
-setFits h weights (at i) = ltb i (h .used) && eqb (flagIn (getD weights i 0)) (h .places)
+setFits h weights unit = eqb (h .open_places) noPlace
+setFits h weights (at i) = ltb i (h .used) && eqb (flagIn (getD weights i 0)) (h .open_places)
 
 pub record Judges (t : State) (h : Head) (work : List ℕ) (r : Weighed) (work′ : List ℕ) : Type 0 where
   pub short : length work < h .used → (r ≡ WeighedIs.Refused ShortWork) × (work′ ≡ work)

@@ -27,7 +27,7 @@ fn head_fits(head: Head, entries: usize) -> bool
     if head.arity > 4 {
         return false;
     }
-    if head.places >= 1u16 << head.arity {
+    if head.open_places >= 1u16 << head.arity {
         return false;
     }
     head.used <= 60000 && head.used as usize <= entries
@@ -64,8 +64,8 @@ fn set_fits(head: Head, work: &[u64]) -> bool
     let set = head.set;
     match set {
         Set::Empty => true,
-        Set::Unit => head.places == Flag::NONE,
-        Set::Record(i) => i < head.used && work[i as usize] % 16 == head.places as u64,
+        Set::Unit => head.open_places == Flag::NONE,
+        Set::Record(i) => i < head.used && work[i as usize] % 16 == head.open_places as u64,
     }
 }
 

@@ -10,7 +10,7 @@ use lib.ListN.{drop, length, length-drop, take, take-append-drop}
 use Rattle.paper.specs.Lists.{_∈_}
 use Rattle.paper.specs.Refusals.{Reply, answer, refused}
 use Rattle.paper.specs.Stream.{StreamRecord, bodyLength, recordsOf, recordsWithin}
-use Rattle.laws.specs.StreamRows.{written}
+use Rattle.laws.specs.StreamCauses.{written}
 use Rattle.laws.proofs.Answers.{refusal-told, refusalOf, told-apart}
 use Rattle.laws.proofs.Lists.{here}
 use Rattle.stream.specs.Positions.{NextRule, isRuleFor, recordAt}

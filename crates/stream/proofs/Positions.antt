@@ -12,7 +12,7 @@ use lib.ListN.{drop, drop-of-length-le, getD, length, length-append, length-drop
 use lib.Seq.{drop-append-le, drop-cons, drop-at, drop-drop, getD-drop, getD-take, length-slice, length-take-le, slice-empty, take-at}
 use Rattle.paper.specs.Lists.{_∈_}
 use Rattle.paper.specs.Stream.{StreamRecord, bodyLength, number, recordsOf, whole}
-use Rattle.laws.specs.StreamRows.{Begins, written}
+use Rattle.laws.specs.StreamCauses.{Begins, written}
 use Rattle.laws.proofs.Lists.{here}
 use Rattle.laws.proofs.StreamPlaces.{place-after, place-here, records-cons}
 use Rattle.stream.specs.Positions.{WholeBetween, after, recordAt, recordsBetween}

@@ -11,7 +11,7 @@ use lib.ListN.{drop, getD, length}
 use Rattle.paper.specs.Lists.{_∈_}
 use Rattle.paper.specs.Query.{isRuleKind}
 use Rattle.paper.specs.Stream.{StreamRecord, bodyLength, number, recordsOf}
-use Rattle.laws.specs.StreamRows.{RuleKind}
+use Rattle.laws.specs.StreamCauses.{RuleKind}
 use Rattle.laws.proofs.Lists.{only, which}
 use Rattle.stream.specs.Positions.{NextRule, after, isRuleFor, recordAt}
 use Rattle.stream.proofs.Positions.{number-byte, records-here, records-none}

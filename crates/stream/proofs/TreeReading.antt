@@ -12,7 +12,7 @@ use Rattle.paper.specs.Lists.{_∈_}
 use Rattle.paper.specs.Refusals.{answer, atEach, nodesIn, refused, treeEndTests, treeTests, unless}
 use Rattle.paper.specs.Stream.{StreamRecord, bodyLength, isTreeKind, recordsOf, treeRecords, whole}
 use Rattle.paper.specs.Tree.{mostUnjoined, unjoined}
-use Rattle.laws.specs.StreamRows.{AllTree, written}
+use Rattle.laws.specs.StreamCauses.{AllTree, written}
 use Rattle.laws.proofs.Lists.{both-true, here, which}
 use Rattle.laws.proofs.Replies.{Passes, answered}
 use Rattle.laws.proofs.StreamPlaces.{all-tree-snoc, tree-kind, tree-records-append}

@@ -12,7 +12,7 @@ use Rattle.paper.specs.Lists.{through}
 use Rattle.paper.specs.Refusals.{answer, refused}
 use Rattle.paper.specs.Stream.{StreamRecord, bodyLength, isTreeKind, number}
 use Rattle.paper.specs.Tree.{Tree, grow, join, leaf, mostFrom, mostUnjoined, unjoined}
-use Rattle.laws.specs.StreamRows.{TreeKind}
+use Rattle.laws.specs.StreamCauses.{TreeKind}
 use Rattle.laws.proofs.Lists.{both-true, or-left, or-right}
 use Rattle.laws.proofs.StreamPlaces.{join-length, tree-kind, unjoined-snoc}
 use Rattle.stream.specs.Positions.{after, recordAt, recordsBetween}

@@ -10,7 +10,7 @@ use lib.ListN.{length, getD, take, drop}
 use Rattle.paper.specs.Lists.{_∈_}
 use Rattle.paper.specs.Stream.{bodyLength, StreamRecord, number, recordsOf}
 use Rattle.paper.specs.Query.{isRuleKind}
-use Rattle.laws.specs.StreamRows.{Begins}
+use Rattle.laws.specs.StreamCauses.{Begins}
 
 -- the record that stands at a position: its kind, and as much of its body as the input has
 abbrev pub recordAt : List ℕ → ℕ → StreamRecord

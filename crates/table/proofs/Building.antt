@@ -1,30 +1,30 @@
 -- The law of the building loop, for any state (`States.antt`) and any covered function `step`. First what the law is of (`Law`), then the two
 -- signatures, the loop's MIR and the contracts, and the walk: `building-meets`.
 -- Assumes `Given`.
-use Rattle.table.proofs.Prelude.{ℕ, _<_, Lft, GName, Share, ftrue, flft, Fml, SProp, ent, id⊢, Fun, fact, u16, u8, yes, Is, pointee}
-use Rattle.table.proofs.Prelude.{RattleType, owns, RefT, now, sliceTy, sliceVal, ShrSlice, Room, slice-vals, shr-slice-tells, MutSlice}
-use Rattle.table.proofs.Prelude.{mut-slice-tells, nothing, owned, heard, Clauses, Ended, closing, onEntry, Meets, Contract, Triple, says}
-use Rattle.table.proofs.Prelude.{needs, Stays, walkOf, Walks, ends-at, walked, walk-meets, Atoms, fullShare, URA, Tr, length, List, [], _∷_}
-use Rattle.table.proofs.Prelude.{_≡_, refl, _∙_, named, w8, w16, w64, Ty, tyInt, Val, Memory, Routine, Heap, WpFn, Tables, Wp, afterSeq}
-use Rattle.table.proofs.Prelude.{afterBlock, atReturn, afterTurn, WpFn-mono, fmOf, Given, ‵, _⊛_, ⋆, _$_, _∵_, !, qed, by, move, keep, split}
-use Rattle.table.proofs.Prelude.{join, fsplit, fjoin, suffices, frame, done, drop, Item, raw, Sq, runs, anyQ, atRet, use1, split3, feqL}
-use Rattle.table.proofs.Prelude.{group, agg, init, forget, stop, from, of-opd, store, and-then, no-more, land, land-last, first, blocks}
-use Rattle.table.proofs.Prelude.{exec}
+use Rattle.walks.proofs.Prelude.{ℕ, _<_, Lft, GName, Share, ftrue, flft, Fml, SProp, ent, id⊢, Fun, fact, u16, u8, yes, Is, pointee}
+use Rattle.walks.proofs.Prelude.{RattleType, owns, RefT, now, sliceTy, sliceVal, ShrSlice, Room, slice-vals, shr-slice-tells, MutSlice}
+use Rattle.walks.proofs.Prelude.{mut-slice-tells, nothing, owned, heard, Clauses, Ended, closing, onEntry, Meets, Contract, Triple, says}
+use Rattle.walks.proofs.Prelude.{needs, Stays, walkOf, Walks, ends-at, walked, walk-meets, Atoms, fullShare, URA, Tr, length, List, [], _∷_}
+use Rattle.walks.proofs.Prelude.{_≡_, refl, _∙_, named, w8, w16, w64, Ty, tyInt, Val, Memory, Routine, Heap, WpFn, Tables, Wp, afterSeq}
+use Rattle.walks.proofs.Prelude.{afterBlock, atReturn, afterTurn, WpFn-mono, fmOf, Given, ‵, _⊛_, ⋆, _$_, _∵_, !, qed, by, move, keep, split}
+use Rattle.walks.proofs.Prelude.{join, fsplit, fjoin, suffices, frame, done, drop, Item, raw, Sq, runs, anyQ, atRet, use1, split3, feqL}
+use Rattle.walks.proofs.Prelude.{group, agg, init, forget, stop, from, of-opd, store, and-then, no-more, land, land-last, first, blocks}
+use Rattle.walks.proofs.Prelude.{exec}
 use types.Kit as Kit
 use mathlib.Core.Bool.{true, false}
 use mir.Syntax.{Name, Fn, Body as Code, erased, imm, mut, tyBool, tyUnit, tyRef, deref, field, place, copy, skip as skipᴹ, seq}
 use mir.Syntax.{assign, block, loop, cond, exit, return, call, rvOpd, addrOf, aggregate}
 use denote.Slice.{shr-slice-copy}
 use Rattle.paper.specs.declared.Record.{Record}
-use Rattle.table.proofs.Steps.{slice-typed, value, part, elements, sets, rv-is}
-use Rattle.table.proofs.Parameters.{by-value, lent, shown, still, gone, goes-still, goes-gone, goes-shown}
-use Rattle.table.proofs.Locals.{var, full, bare, locals, Blocks, envOf, enters, leaves, span}
-use Rattle.table.proofs.Loops.{tests, Onward, whiles, again}
-use Rattle.table.proofs.States.{Shape, Field, State, Row, StateTy, machine, state-tells, state-makes, state-typed, field-fits, nil, silent}
-use Rattle.table.proofs.States.{holds, fails}
-use Rattle.table.proofs.Entries.{Entry, EntryTy}
-use Rattle.table.proofs.Calls.{contract, calls}
-use Rattle.table.proofs.Lending.{at-list, Mine, Seen, lends, has-back}
+use Rattle.walks.proofs.Steps.{slice-typed, value, part, elements, sets, rv-is}
+use Rattle.walks.proofs.Parameters.{by-value, lent, shown, still, gone, goes-still, goes-gone, goes-shown}
+use Rattle.walks.proofs.Locals.{var, full, bare, locals, Blocks, envOf, enters, leaves, span}
+use Rattle.walks.proofs.Loops.{tests, Onward, whiles, again}
+use Rattle.walks.proofs.States.{Shape, Field, State, Row, StateTy, machine, state-tells, state-makes, state-typed, field-fits, nil, silent}
+use Rattle.walks.proofs.States.{holds, fails}
+use Rattle.walks.proofs.Entries.{Entry, EntryTy}
+use Rattle.walks.proofs.Calls.{contract, calls}
+use Rattle.walks.proofs.Lending.{at-list, Mine, Seen, lends, has-back}
 pub use Rattle.table.proofs.Storing.{Hand, turned}
 use Rattle.table.proofs.Storing as storing
 use Rattle.table.proofs.Storing.{Alike, turned-alike, stores}

@@ -1,30 +1,30 @@
 -- The law of a loop that copies: it reads the source where its state says, one entry a turn, and stores the records that `next` makes of it in the
 -- target. First what the law is of (`Law`), then the two signatures, the loop's MIR and the contracts, and the walk: `copying-meets`.
 -- Assumes `Given`.
-use Rattle.table.proofs.Prelude.{ℕ, _<_, _*_, _^_, Lft, GName, Share, ftrue, flft, Fml, fobor, SProp, ent, id⊢, Fun, fact, u16, yes}
-use Rattle.table.proofs.Prelude.{shuts-slice, row, Is, shares, pointee, RattleType, owns, RefT, now, sliceTy, sliceVal, ShrSlice, Room}
-use Rattle.table.proofs.Prelude.{slice-vals, shr-slice-tells, MutSlice, mut-slice-tells, nothing, owned, heard, Clauses, Ended, closing}
-use Rattle.table.proofs.Prelude.{onEntry, Meets, Contract, Triple, says, needs, Stays, walkOf, Walks, ends-at, walked, walk-meets, Atoms}
-use Rattle.table.proofs.Prelude.{fullShare, URA, Tr, length, getD, List, [], _∷_, _≡_, refl, _∙_, named, w16, w64, tyPtr, Ty, tyInt, Val}
-use Rattle.table.proofs.Prelude.{Memory, Routine, Heap, WpFn, Tables, Wp, afterSeq, afterBlock, atReturn, afterTurn, WpFn-mono, fmOf, Given}
-use Rattle.table.proofs.Prelude.{‵, _⊛_, ⋆, _$_, _∵_, !, qed, by, move, keep, join, fsplit, fjoin, suffices, frame, done, drop, Item, raw}
-use Rattle.table.proofs.Prelude.{Sq, runs, anyQ, atRet, use1, split3, feqL, group, agg, look, look-raw, init, forget, stop, hop, from, load}
-use Rattle.table.proofs.Prelude.{lit, of-opd, bin, store, and-then, no-more, land, land-last, first, blocks, exec, arr-parts}
+use Rattle.walks.proofs.Prelude.{ℕ, _<_, _*_, _^_, Lft, GName, Share, ftrue, flft, Fml, fobor, SProp, ent, id⊢, Fun, fact, u16, yes}
+use Rattle.walks.proofs.Prelude.{shuts-slice, row, Is, shares, pointee, RattleType, owns, RefT, now, sliceTy, sliceVal, ShrSlice, Room}
+use Rattle.walks.proofs.Prelude.{slice-vals, shr-slice-tells, MutSlice, mut-slice-tells, nothing, owned, heard, Clauses, Ended, closing}
+use Rattle.walks.proofs.Prelude.{onEntry, Meets, Contract, Triple, says, needs, Stays, walkOf, Walks, ends-at, walked, walk-meets, Atoms}
+use Rattle.walks.proofs.Prelude.{fullShare, URA, Tr, length, getD, List, [], _∷_, _≡_, refl, _∙_, named, w16, w64, tyPtr, Ty, tyInt, Val}
+use Rattle.walks.proofs.Prelude.{Memory, Routine, Heap, WpFn, Tables, Wp, afterSeq, afterBlock, atReturn, afterTurn, WpFn-mono, fmOf, Given}
+use Rattle.walks.proofs.Prelude.{‵, _⊛_, ⋆, _$_, _∵_, !, qed, by, move, keep, join, fsplit, fjoin, suffices, frame, done, drop, Item, raw}
+use Rattle.walks.proofs.Prelude.{Sq, runs, anyQ, atRet, use1, split3, feqL, group, agg, look, look-raw, init, forget, stop, hop, from, load}
+use Rattle.walks.proofs.Prelude.{lit, of-opd, bin, store, and-then, no-more, land, land-last, first, blocks, exec, arr-parts}
 use types.Kit as Kit
 use mathlib.Core.Bool.{true, false}
 use mir.Syntax.{Name, Fn, Body as Code, erased, imm, mut, tyBool, tyUnit, tyRef, deref, field, place, copy, int, skip as skipᴹ, seq}
 use mir.Syntax.{assign, block, loop, cond, exit, return, call, rvOpd, op2, mul, unsigned, offset, addrOf, aggregate}
 use Rattle.paper.specs.declared.Record.{Record}
 use Rattle.paper.specs.Records.{blankEntry}
-use Rattle.table.proofs.Steps.{number-typed, slice-typed, value, part, elements, sets, rv-is}
-use Rattle.table.proofs.Parameters.{by-value, lent, shown, still, gone, goes-still, goes-gone, goes-shown}
-use Rattle.table.proofs.Locals.{var, full, bare, locals, Blocks, envOf, enters, leaves, span}
-use Rattle.table.proofs.Loops.{tests, Onward, whiles, again}
-use Rattle.table.proofs.States.{Shape, Field, State, Row, StateTy, machine, state-tells, state-makes, state-typed, field-fits, nil, silent}
-use Rattle.table.proofs.States.{holds, fails}
-use Rattle.table.proofs.Entries.{entry-place, Entry, EntryTy, vals, typed, place-fits, owns-entry, looks-table, entry-out, entry-back}
-use Rattle.table.proofs.Calls.{contract, calls}
-use Rattle.table.proofs.Lending.{at-list, Mine, lends, has-back}
+use Rattle.walks.proofs.Steps.{number-typed, slice-typed, value, part, elements, sets, rv-is}
+use Rattle.walks.proofs.Parameters.{by-value, lent, shown, still, gone, goes-still, goes-gone, goes-shown}
+use Rattle.walks.proofs.Locals.{var, full, bare, locals, Blocks, envOf, enters, leaves, span}
+use Rattle.walks.proofs.Loops.{tests, Onward, whiles, again}
+use Rattle.walks.proofs.States.{Shape, Field, State, Row, StateTy, machine, state-tells, state-makes, state-typed, field-fits, nil, silent}
+use Rattle.walks.proofs.States.{holds, fails}
+use Rattle.walks.proofs.Entries.{entry-place, Entry, EntryTy, vals, typed, place-fits, owns-entry, looks-table, entry-out, entry-back}
+use Rattle.walks.proofs.Calls.{contract, calls}
+use Rattle.walks.proofs.Lending.{at-list, Mine, lends, has-back}
 pub use Rattle.table.proofs.Storing.{Hand, turned, Store}
 use Rattle.table.proofs.Storing.{Alike, turned-alike, stores}
 

@@ -27,12 +27,12 @@ use denote.Steps.{nothing, heard}
 use denote.Triple.Statement.{Contract, Triple}
 use Rattle.paper.specs.declared.Record.{Record}
 use Rattle.table.specs.Batch.{stored}
-use Rattle.table.proofs.Steps.{owns-number}
-use Rattle.table.proofs.States.{Shape, Field, State}
-use Rattle.table.proofs.Entries.{Entry}
+use Rattle.walks.proofs.Steps.{owns-number}
+use Rattle.walks.proofs.States.{Shape, Field, State}
+use Rattle.walks.proofs.Entries.{Entry}
 use Rattle.table.proofs.Batches.{length-stored}
-use Rattle.table.proofs.Calls.{contract, calls-last}
-use Rattle.table.proofs.Lending.{at-list, Mine, Seen, lends, has-back, shows, shown-back}
+use Rattle.walks.proofs.Calls.{contract, calls-last}
+use Rattle.walks.proofs.Lending.{at-list, Mine, Seen, lends, has-back, shows, shown-back}
 use Rattle.table.proofs.store as store
 
 -- `table` is the table that is stored to

@@ -1,24 +1,24 @@
 -- `fix::fix` meets its contract: a walk of its MIR, by hand, in a straight line. The source is shown to three of the calls, the work lent to four,
 -- the target and the batch, an array of its own, to the second pass. First how the walk ends, then the six calls, then the walk from its end.
 -- Assumes nothing.
-use Rattle.table.proofs.Prelude.{ℕ, _<_, _^_, _≤_, Lft, GName, Share, ftrue, flft, Fml, froom, SProp, ent, emp, id⊢, via, fst∗, Fun, givenOf}
-use Rattle.table.proofs.Prelude.{tables, tablesOf, u64, u16, owns, RefT, now, sliceVal, ShrSlice, Room, slice-vals, shr-slice-tells, MutSlice}
-use Rattle.table.proofs.Prelude.{mut-slice-tells, nothing, heard, Vals, onEntry, Contract, Triple, cited, says, Stays, walkOf, ends-at, Atoms}
-use Rattle.table.proofs.Prelude.{fullShare, URA, lit<, length, List, [], _∷_, _≡_, refl, sym, subst, _∙_, named, w16, w64, Ty, Val, vint, arith}
-use Rattle.table.proofs.Prelude.{Memory, Routine, Heap, WpFn, Tables, fmOf, Given, ‵, _⊛_, ⋆, _$_, _∵_, !, qed, by, move, keep, split, join, fsplit}
-use Rattle.table.proofs.Prelude.{fjoin, suffices, frame, done, drop, Item, raw, Sq, runs, atRet, use0, use1, split3, feqL, group, agg, init, stop}
-use Rattle.table.proofs.Prelude.{from, lit, of-opd, addr, and-then, no-more, land}
+use Rattle.walks.proofs.Prelude.{ℕ, _<_, _^_, _≤_, Lft, GName, Share, ftrue, flft, Fml, froom, SProp, ent, emp, id⊢, via, fst∗, Fun, givenOf}
+use Rattle.walks.proofs.Prelude.{tables, tablesOf, u64, u16, owns, RefT, now, sliceVal, ShrSlice, Room, slice-vals, shr-slice-tells, MutSlice}
+use Rattle.walks.proofs.Prelude.{mut-slice-tells, nothing, heard, Vals, onEntry, Contract, Triple, cited, says, Stays, walkOf, ends-at, Atoms}
+use Rattle.walks.proofs.Prelude.{fullShare, URA, lit<, length, List, [], _∷_, _≡_, refl, sym, subst, _∙_, named, w16, w64, Ty, Val, vint, arith}
+use Rattle.walks.proofs.Prelude.{Memory, Routine, Heap, WpFn, Tables, fmOf, Given, ‵, _⊛_, ⋆, _$_, _∵_, !, qed, by, move, keep, split, join, fsplit}
+use Rattle.walks.proofs.Prelude.{fjoin, suffices, frame, done, drop, Item, raw, Sq, runs, atRet, use0, use1, split3, feqL, group, agg, init, stop}
+use Rattle.walks.proofs.Prelude.{from, lit, of-opd, addr, and-then, no-more, land}
 use mathlib.Core.List.{_++_}
 use mir.Val.{vptr}
 use denote.Slice.{shr-slice-copy}
-use Rattle.table.proofs.Steps.{number-typed, slice-typed, value, part, elements, sets, owns-number}
-use Rattle.table.proofs.Parameters.{by-value, shown, still, gone, goes-still, goes-gone, goes-shown}
-use Rattle.table.proofs.Locals.{finish, Hold, full, bare, locals, Blocks, envOf, enters, leaves, span}
-use Rattle.table.proofs.Entries.{Entry}
-use Rattle.table.proofs.Calls.{contract, calls}
-use Rattle.table.proofs.Lending.{at-list, Mine, Seen, lends, has-back}
-use Rattle.table.proofs.Arrays.{numbers, ArrayTy, copies, length-copies, makes-array, lends-array, array-back, array-room}
-use Rattle.table.proofs.Values.{Value, Good, bound, unsaid, owns-value, struct, enum, number}
+use Rattle.walks.proofs.Steps.{number-typed, slice-typed, value, part, elements, sets, owns-number}
+use Rattle.walks.proofs.Parameters.{by-value, shown, still, gone, goes-still, goes-gone, goes-shown}
+use Rattle.walks.proofs.Locals.{finish, Hold, full, bare, locals, Blocks, envOf, enters, leaves, span}
+use Rattle.walks.proofs.Entries.{Entry}
+use Rattle.walks.proofs.Calls.{contract, calls}
+use Rattle.walks.proofs.Lending.{at-list, Mine, Seen, lends, has-back}
+use Rattle.walks.proofs.Arrays.{numbers, ArrayTy, copies, length-copies, makes-array, lends-array, array-back, array-room}
+use Rattle.walks.proofs.Values.{Value, Good, bound, unsaid, owns-value, struct, enum, number}
 use Rattle.paper.specs.declared.Fixed.{Fixed}
 use Rattle.paper.specs.declared.Head.{Head}
 use Rattle.paper.specs.declared.Record.{Record}

@@ -18,7 +18,7 @@ use denote.Triple.Table.{cited, entered}
 use Rattle.laws.proofs.Lists.{which}
 use Rattle.laws.proofs.Shaped.{last-or}
 use Rattle.paper.specs.Sound.{entry}
-use Rattle.table.proofs.Asking.{Law, Next, asking-meets}
+use Rattle.walks.proofs.Asking.{Law, Next, asking-meets}
 use Rattle.table.proofs.Sets.{number-set}
 use Rattle.fix.specs.Sets.{Image, Makes, Record, empty, newIn, setNumber}
 use Rattle.fix.specs.States.{State, passed, started, stopped}

@@ -2,26 +2,26 @@
 -- First how the walk ends, then the calls, then what runs behind each call, from the last, and the whole. What is to be shown of plain values
 -- stands in `Answering`.
 -- Assumes nothing.
-use Rattle.table.proofs.Prelude.{ℕ, _≤_, Lft, GName, Share, ftrue, flft, Fml, froom, SProp, ent, id⊢, Fun, givenOf, tables, tablesOf, u64, u8}
-use Rattle.table.proofs.Prelude.{Is, owns, RefT, sliceVal, ShrSlice, Room, slice-vals, shr-slice-tells, MutSlice, mut-slice-tells, nothing, owned, heard}
-use Rattle.table.proofs.Prelude.{Vals, onEntry, Contract, Triple, cited, says, needs, Stays, walkOf, ends-at, Atoms, fullShare, URA, lit<, length, List}
-use Rattle.table.proofs.Prelude.{[], _∷_, _≡_, refl, _∙_, named, w64, Ty, Val, arith, Memory, Routine, Heap, WpFn, Tables, fmOf, Given, ‵, _⊛_, ⋆, _$_, _∵_, ! }
-use Rattle.table.proofs.Prelude.{qed, by, move, keep, split, join, fsplit, fjoin, suffices, frame, done, drop, Item, raw, Sq, runs, atRet, use0, use1, split3}
-use Rattle.table.proofs.Prelude.{feqL, group, agg, init, stop, from, lit, addr, and-then, no-more, land}
+use Rattle.walks.proofs.Prelude.{ℕ, _≤_, Lft, GName, Share, ftrue, flft, Fml, froom, SProp, ent, id⊢, Fun, givenOf, tables, tablesOf, u64, u8}
+use Rattle.walks.proofs.Prelude.{Is, owns, RefT, sliceVal, ShrSlice, Room, slice-vals, shr-slice-tells, MutSlice, mut-slice-tells, nothing, owned, heard}
+use Rattle.walks.proofs.Prelude.{Vals, onEntry, Contract, Triple, cited, says, needs, Stays, walkOf, ends-at, Atoms, fullShare, URA, lit<, length, List}
+use Rattle.walks.proofs.Prelude.{[], _∷_, _≡_, refl, _∙_, named, w64, Ty, Val, arith, Memory, Routine, Heap, WpFn, Tables, fmOf, Given, ‵, _⊛_, ⋆, _$_, _∵_, ! }
+use Rattle.walks.proofs.Prelude.{qed, by, move, keep, split, join, fsplit, fjoin, suffices, frame, done, drop, Item, raw, Sq, runs, atRet, use0, use1, split3}
+use Rattle.walks.proofs.Prelude.{feqL, group, agg, init, stop, from, lit, addr, and-then, no-more, land}
 use base.Fml.{fdies}
 use mathlib.Core.List.{_++_}
 use mir.Val.{vptr}
 use lib.ListN.{drop as past, take}
 use denote.Slice.{shr-slice-copy}
-use Rattle.table.proofs.Steps.{big-lit, elements, part, sets, slice-typed, value}
-use Rattle.table.proofs.Parameters.{goes-shown, goes-still, gone, shown, still}
-use Rattle.table.proofs.Locals.{Blocks, Hold, bare, enters, envOf, finish, full, leaves, locals, span}
-use Rattle.table.proofs.Entries.{Entry, blank-good, lowered, typed}
-use Rattle.table.proofs.Calls.{calls, contract}
-use Rattle.table.proofs.Lending.{Mine, Seen, at-list, has-back, lends}
-use Rattle.table.proofs.Arrays.{ArrayTy, Elements, array-back, array-room, array-shown, copies, entries, length-copies, lends-array, makes-array, numbers, shows-array}
-use Rattle.table.proofs.States.{machine, state-makes, state-tells, state-typed}
-use Rattle.table.proofs.Values.{Good, Value, enum, owns-value, struct}
+use Rattle.walks.proofs.Steps.{big-lit, elements, part, sets, slice-typed, value}
+use Rattle.walks.proofs.Parameters.{goes-shown, goes-still, gone, shown, still}
+use Rattle.walks.proofs.Locals.{Blocks, Hold, bare, enters, envOf, finish, full, leaves, locals, span}
+use Rattle.walks.proofs.Entries.{Entry, blank-good, lowered, typed}
+use Rattle.walks.proofs.Calls.{calls, contract}
+use Rattle.walks.proofs.Lending.{Mine, Seen, at-list, has-back, lends}
+use Rattle.walks.proofs.Arrays.{ArrayTy, Elements, array-back, array-room, array-shown, copies, entries, length-copies, lends-array, makes-array, numbers, shows-array}
+use Rattle.walks.proofs.States.{machine, state-makes, state-tells, state-typed}
+use Rattle.walks.proofs.Values.{Good, Value, enum, owns-value, struct}
 use Rattle.paper.specs.declared.Built.{Built}
 use Rattle.paper.specs.declared.Counted.{Counted}
 use Rattle.paper.specs.declared.Head.{Head}
@@ -34,11 +34,11 @@ use Rattle.paper.proofs.Counted as Counted-type
 use Rattle.paper.proofs.Counted.Laws as CountedLaws
 use Rattle.paper.proofs.Head as Head-type
 use Rattle.paper.proofs.Head.Laws as HeadLaws
-use Rattle.build.specs.Face.{Builds}
-use Rattle.build.proofs.build as build
-use Rattle.build.proofs.build.Symbol as build-def
-use Rattle.build.proofs.build.Symbol.{name as #build}
-use Rattle.build.proofs.build.Met as build-thm
+use Rattle.building.specs.Face.{Builds}
+use Rattle.building.proofs.build as build
+use Rattle.building.proofs.build.Symbol as build-def
+use Rattle.building.proofs.build.Symbol.{name as #build}
+use Rattle.building.proofs.build.Met as build-thm
 use Rattle.sound.specs.Face.{Counts}
 use Rattle.sound.proofs.count as count
 use Rattle.sound.proofs.count.Symbol as count-def
@@ -446,7 +446,7 @@ list-spec 𝓤 H 𝓜 𝓖 𝓡 =
     (walk 𝓤 H (𝓖 .A) (givenOf 𝓤 H 𝓜 𝓖) (𝓜 .mem) (𝓡 .run) (κs .0) (κs .1 .0) (qs .0) (qs .1 .0)
     (a .0 .ptr .0) (a .0 .ptr .1) (a .0 .name) (a .0 .now) (a .1 .0 .ptr .0) (a .1 .0 .ptr .1) (a .1 .0 .name) (a .1 .0 .now)
     (tablesOf 𝓤 H 𝓜 (tables 𝓤 H 𝓜 𝓡 code.env))
-    (cited 𝓤 H (Build 𝓤 H (𝓖 .A) (givenOf 𝓤 H 𝓜 𝓖) (𝓜 .mem) (𝓡 .run)) 𝓜 𝓡 code.env #build build-def.routine code.calls-build·build (build-thm.met 𝓤 H 𝓜 𝓖 𝓡))
+    (cited 𝓤 H (Build 𝓤 H (𝓖 .A) (givenOf 𝓤 H 𝓜 𝓖) (𝓜 .mem) (𝓡 .run)) 𝓜 𝓡 code.env #build build-def.routine code.calls-building·build (build-thm.met 𝓤 H 𝓜 𝓖 𝓡))
     (cited 𝓤 H (HeadOf 𝓤 H (𝓖 .A) (givenOf 𝓤 H 𝓜 𝓖) (𝓜 .mem) (𝓡 .run)) 𝓜 𝓡 code.env #head-of head-of-def.routine code.calls-list·head-of (head-of-thm.met 𝓤 H 𝓜 𝓖 𝓡))
     (cited 𝓤 H (Count 𝓤 H (𝓖 .A) (givenOf 𝓤 H 𝓜 𝓖) (𝓜 .mem) (𝓡 .run)) 𝓜 𝓡 code.env #count count-def.routine code.calls-sound·count (count-thm.met 𝓤 H 𝓜 𝓖 𝓡))
     (cited 𝓤 H (Open 𝓤 H (𝓖 .A) (givenOf 𝓤 H 𝓜 𝓖) (𝓜 .mem) (𝓡 .run)) 𝓜 𝓡 code.env #open-page open-page-def.routine code.calls-list·page·open-page (open-page-thm.met 𝓤 H 𝓜 𝓖 𝓡))

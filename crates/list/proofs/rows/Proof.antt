@@ -1,28 +1,28 @@
 -- `rows` meets its contract: a walk of its MIR, by hand. It is a loop with two calls, of `row::row` and of `put_line`. First how the walk ends,
 -- then the two calls, then a turn and the whole. What is to be shown of plain values stands in `Telling`.
 -- Assumes nothing.
-use Rattle.table.proofs.Prelude.{ℕ, _<_, _^_, Lft, GName, Share, ftrue, flft, Fml, froom, SProp, ent, id⊢, Fun, givenOf, tables, tablesOf, u64, u16, u8}
-use Rattle.table.proofs.Prelude.{Is, owns, RefT, sliceVal, ShrSlice, Room, slice-vals, shr-slice-tells, MutSlice, mut-slice-tells, nothing, owned, heard}
-use Rattle.table.proofs.Prelude.{Vals, onEntry, Contract, Triple, cited, says, needs, Stays, walkOf, ends-at, Atoms, fullShare, URA, Tr, lit<, length, List}
-use Rattle.table.proofs.Prelude.{[], _∷_, _≡_, refl, _∙_, named, w16, w64, Ty, Val, vint, Memory, Routine, Heap, WpFn, Tables, Wp, afterSeq, afterBlock}
-use Rattle.table.proofs.Prelude.{atReturn, afterTurn, fmOf, Given, ‵, _⊛_, ⋆, _$_, _∵_, !, qed, by, move, keep, split, join, fsplit, fjoin, suffices, frame}
-use Rattle.table.proofs.Prelude.{done, drop, Item, raw, Sq, runs, anyQ, atRet, use1, split3, feqL, group, agg, init, store, forget, stop, from, lit, addr}
-use Rattle.table.proofs.Prelude.{of-opd, and-then, no-more, land, land-last, first, blocks, exec}
+use Rattle.walks.proofs.Prelude.{ℕ, _<_, _^_, Lft, GName, Share, ftrue, flft, Fml, froom, SProp, ent, id⊢, Fun, givenOf, tables, tablesOf, u64, u16, u8}
+use Rattle.walks.proofs.Prelude.{Is, owns, RefT, sliceVal, ShrSlice, Room, slice-vals, shr-slice-tells, MutSlice, mut-slice-tells, nothing, owned, heard}
+use Rattle.walks.proofs.Prelude.{Vals, onEntry, Contract, Triple, cited, says, needs, Stays, walkOf, ends-at, Atoms, fullShare, URA, Tr, lit<, length, List}
+use Rattle.walks.proofs.Prelude.{[], _∷_, _≡_, refl, _∙_, named, w16, w64, Ty, Val, vint, Memory, Routine, Heap, WpFn, Tables, Wp, afterSeq, afterBlock}
+use Rattle.walks.proofs.Prelude.{atReturn, afterTurn, fmOf, Given, ‵, _⊛_, ⋆, _$_, _∵_, !, qed, by, move, keep, split, join, fsplit, fjoin, suffices, frame}
+use Rattle.walks.proofs.Prelude.{done, drop, Item, raw, Sq, runs, anyQ, atRet, use1, split3, feqL, group, agg, init, store, forget, stop, from, lit, addr}
+use Rattle.walks.proofs.Prelude.{of-opd, and-then, no-more, land, land-last, first, blocks, exec}
 use types.Kit as Kit
 use base.Fml.{fdies}
 use mathlib.Core.List.{_++_}
 use lib.ListN.{drop as past, take}
 use denote.Slice.{shr-slice-copy}
-use Rattle.table.proofs.Steps.{elements, part, sets, slice-typed, value}
-use Rattle.table.proofs.Parameters.{by-value, goes-gone, goes-shown, goes-still, gone, shown, still}
-use Rattle.table.proofs.Locals.{Blocks, bare, enters, envOf, finish, full, leaves, locals, span}
-use Rattle.table.proofs.Loops.{Onward, again, tests, whiles}
-use Rattle.table.proofs.Entries.{Entry}
-use Rattle.table.proofs.Calls.{calls, calls-last, contract}
-use Rattle.table.proofs.Lending.{Mine, Seen, at-list, has-back, lends}
-use Rattle.table.proofs.Arrays.{ArrayTy, Elements, array-back, array-room, array-shown, copies, length-copies, lends-array, makes-array, numbers, shows-array}
-use Rattle.table.proofs.States.{fails, field-fits, holds, machine, nil, silent, state-makes, state-tells, state-typed}
-use Rattle.table.proofs.Values.{Good, Value, bound, enum, number, owns-value, struct, unsaid}
+use Rattle.walks.proofs.Steps.{elements, part, sets, slice-typed, value}
+use Rattle.walks.proofs.Parameters.{by-value, goes-gone, goes-shown, goes-still, gone, shown, still}
+use Rattle.walks.proofs.Locals.{Blocks, bare, enters, envOf, finish, full, leaves, locals, span}
+use Rattle.walks.proofs.Loops.{Onward, again, tests, whiles}
+use Rattle.walks.proofs.Entries.{Entry}
+use Rattle.walks.proofs.Calls.{calls, calls-last, contract}
+use Rattle.walks.proofs.Lending.{Mine, Seen, at-list, has-back, lends}
+use Rattle.walks.proofs.Arrays.{ArrayTy, Elements, array-back, array-room, array-shown, copies, length-copies, lends-array, makes-array, numbers, shows-array}
+use Rattle.walks.proofs.States.{fails, field-fits, holds, machine, nil, silent, state-makes, state-tells, state-typed}
+use Rattle.walks.proofs.Values.{Good, Value, bound, enum, number, owns-value, struct, unsaid}
 use Rattle.paper.specs.declared.Head.{Head}
 use Rattle.paper.specs.declared.Record.{Record}
 use Rattle.paper.specs.declared.Written.{Written}

@@ -15,7 +15,7 @@ use Rattle.paper.specs.declared.Head.{Head}
 use Rattle.paper.specs.declared.Record.{Record}
 use Rattle.paper.specs.Row.{Row}
 use Rattle.paper.specs.Sound.{entry}
-use Rattle.table.proofs.Asking.{Hand, Law, Next, asking-meets}
+use Rattle.walks.proofs.Asking.{Hand, Law, Next, asking-meets}
 use Rattle.member.specs.Driving.{Driven, Ready, Starts}
 use Rattle.member.specs.Pass.{Reads, Turns}
 use Rattle.member.proofs.Passing.{Passing, comes-nearer, in-table, passing-first, passing-next, turn-reads}

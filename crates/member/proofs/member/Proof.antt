@@ -1,21 +1,21 @@
 -- `member::member` meets its contract: a walk of its MIR, by hand. It is a straight line of four calls; the work is lent to three of them.
 -- First how the walk ends, then the calls, then the walk from its end to its beginning.
 -- Assumes nothing.
-use Rattle.table.proofs.Prelude.{ℕ, Lft, GName, Share, ftrue, flft, Fml, SProp, ent, emp, id⊢, via, fst∗, Fun, givenOf, tables, tablesOf, u64, u16}
-use Rattle.table.proofs.Prelude.{owns, RefT, sliceVal, ShrSlice, Room, slice-vals, shr-slice-tells, MutSlice, mut-slice-tells, nothing, heard, Vals}
-use Rattle.table.proofs.Prelude.{onEntry, Contract, Triple, cited, says, Stays, walkOf, ends-at, Atoms, fullShare, URA, length, List, [], _∷_, _≡_, refl}
-use Rattle.table.proofs.Prelude.{_∙_, subst, sym, named, Ty, Val, Memory, Routine, Heap, WpFn, Tables, fmOf, Given, ‵, _⊛_, ⋆, _$_, _∵_, !, qed, by, move}
-use Rattle.table.proofs.Prelude.{keep, split, join, fsplit, fjoin, suffices, frame, done, drop, raw, Sq, runs, atRet, use1, split3, feqL, group, agg}
-use Rattle.table.proofs.Prelude.{init, stop, from, and-then, no-more, land}
+use Rattle.walks.proofs.Prelude.{ℕ, Lft, GName, Share, ftrue, flft, Fml, SProp, ent, emp, id⊢, via, fst∗, Fun, givenOf, tables, tablesOf, u64, u16}
+use Rattle.walks.proofs.Prelude.{owns, RefT, sliceVal, ShrSlice, Room, slice-vals, shr-slice-tells, MutSlice, mut-slice-tells, nothing, heard, Vals}
+use Rattle.walks.proofs.Prelude.{onEntry, Contract, Triple, cited, says, Stays, walkOf, ends-at, Atoms, fullShare, URA, length, List, [], _∷_, _≡_, refl}
+use Rattle.walks.proofs.Prelude.{_∙_, subst, sym, named, Ty, Val, Memory, Routine, Heap, WpFn, Tables, fmOf, Given, ‵, _⊛_, ⋆, _$_, _∵_, !, qed, by, move}
+use Rattle.walks.proofs.Prelude.{keep, split, join, fsplit, fjoin, suffices, frame, done, drop, raw, Sq, runs, atRet, use1, split3, feqL, group, agg}
+use Rattle.walks.proofs.Prelude.{init, stop, from, and-then, no-more, land}
 use mir.Val.{vptr}
 use denote.Slice.{shr-slice-copy}
-use Rattle.table.proofs.Steps.{slice-typed, value, part, elements, sets}
-use Rattle.table.proofs.Parameters.{by-value, shown, still, gone, goes-still, goes-gone, goes-shown}
-use Rattle.table.proofs.Locals.{finish, Hold, full, bare, locals, Blocks, envOf, enters, leaves, span}
-use Rattle.table.proofs.Entries.{Entry}
-use Rattle.table.proofs.Calls.{contract, calls}
-use Rattle.table.proofs.Lending.{at-list, Mine, Seen, lends, has-back}
-use Rattle.table.proofs.Values.{Value, Good, bound, enum, owns-value, struct, unsaid}
+use Rattle.walks.proofs.Steps.{slice-typed, value, part, elements, sets}
+use Rattle.walks.proofs.Parameters.{by-value, shown, still, gone, goes-still, goes-gone, goes-shown}
+use Rattle.walks.proofs.Locals.{finish, Hold, full, bare, locals, Blocks, envOf, enters, leaves, span}
+use Rattle.walks.proofs.Entries.{Entry}
+use Rattle.walks.proofs.Calls.{contract, calls}
+use Rattle.walks.proofs.Lending.{at-list, Mine, Seen, lends, has-back}
+use Rattle.walks.proofs.Values.{Value, Good, bound, enum, owns-value, struct, unsaid}
 use Rattle.paper.specs.declared.Head.{Head}
 use Rattle.paper.specs.declared.Member.{Member}
 use Rattle.paper.specs.declared.Record.{Record}

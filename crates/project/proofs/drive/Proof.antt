@@ -14,7 +14,7 @@ use denote.Builtin.{u64}
 use denote.Triple.Spec.{tripleOf}
 use denote.Triple.Table.{entered, cited}
 use Rattle.paper.specs.Sound.{entry}
-use Rattle.table.proofs.Asking.{Hand, Law, Next, asking-meets}
+use Rattle.walks.proofs.Asking.{Hand, Law, Next, asking-meets}
 use Rattle.project.specs.Passing.{Driven, InWork, Passes, Ready, Record, State, further, passed, turnsLeft}
 use Rattle.project.proofs.StateShape.{shape, at-field}
 use Rattle.project.proofs.pass.next.Symbol as next-def

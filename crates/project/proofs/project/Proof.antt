@@ -13,8 +13,8 @@ use Rattle.sound.proofs.weigh.Symbol as weigh-def
 use Rattle.sound.proofs.weigh.Symbol.{name as #weigh}
 use Rattle.sound.proofs.weigh.Met as weigh-thm
 use Rattle.sound.specs.Face.{Weighs}
-use Rattle.table.proofs.Outputs.{Types, Law, Weigh, Begin, Drive, Finish, output-meets}
-use Rattle.table.proofs.Values.{enum, number, struct}
+use Rattle.walks.proofs.Outputs.{Types, Law, Weigh, Begin, Drive, Finish, output-meets}
+use Rattle.walks.proofs.Values.{enum, number, struct}
 use Rattle.project.specs.Face.{Projects}
 use Rattle.project.specs.Marks.{Finishable, Finishes}
 use Rattle.project.specs.Passing.{Driven, Ready}

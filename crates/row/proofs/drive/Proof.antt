@@ -12,7 +12,7 @@ use denote.Builtin.{u64}
 use denote.Triple.Spec.{tripleOf}
 use denote.Triple.Table.{entered, cited}
 use Rattle.paper.specs.Records.{blankEntry}
-use Rattle.table.proofs.Asking.{Hand, Law, Next, asking-meets}
+use Rattle.walks.proofs.Asking.{Hand, Law, Next, asking-meets}
 use Rattle.row.specs.Descent.{Readable, Record, State, Steps}
 use Rattle.row.specs.Descending.{Descended, Ready, Underway, soughtRow}
 use Rattle.row.proofs.Descents.{entry-read}

@@ -5,8 +5,8 @@ use contract.Running.{givenOf, tables, tablesOf}
 use denote.Builtin.{u16}
 use denote.Triple.Spec.{tripleOf}
 use denote.Triple.Table.{entered, cited}
-use Rattle.table.proofs.Outputs.{Begin, Drive, Finish, Law, Types, Weigh, output-meets}
-use Rattle.table.proofs.Values.{enum, number, struct}
+use Rattle.walks.proofs.Outputs.{Begin, Drive, Finish, Law, Types, Weigh, output-meets}
+use Rattle.walks.proofs.Values.{enum, number, struct}
 use Rattle.paper.proofs.Written as Written
 use Rattle.paper.proofs.Written.Laws as WrittenLaws
 use Rattle.sound.specs.Face.{Weighs}

@@ -1,19 +1,19 @@
 -- `count` meets its contract: a walk of its MIR, by hand. It is a straight line of two calls. First how the walk ends, then the calls, then
 -- the whole.
 -- Assumes nothing.
-use Rattle.table.proofs.Prelude.{ℕ, Lft, GName, Share, ftrue, flft, Fml, SProp, ent, emp, id⊢, via, fst∗, Fun, givenOf, tables}
-use Rattle.table.proofs.Prelude.{tablesOf, u64, owns, RefT, sliceVal, ShrSlice, Room, slice-vals, shr-slice-tells, MutSlice, mut-slice-tells}
-use Rattle.table.proofs.Prelude.{nothing, heard, Vals, onEntry, Contract, Triple, cited, says, Stays, walkOf, ends-at, Atoms, fullShare, URA}
-use Rattle.table.proofs.Prelude.{length, List, [], _∷_, _≡_, refl, _∙_, named, Val, Memory, Routine, Heap, WpFn, Tables}
-use Rattle.table.proofs.Prelude.{fmOf, Given, ‵, _⊛_, ⋆, _$_, _∵_, !, qed, by, move, keep, split, join, fsplit, fjoin, suffices, frame, done, drop}
-use Rattle.table.proofs.Prelude.{raw, use1, split3, feqL, group, agg, init, stop, from, and-then, no-more, land}
-use Rattle.table.proofs.Steps.{elements, part, sets, slice-typed, value}
-use Rattle.table.proofs.Parameters.{by-value, goes-gone, goes-shown, goes-still, gone, shown, still}
-use Rattle.table.proofs.Locals.{enters, finish, full, leaves, span}
-use Rattle.table.proofs.Entries.{Entry}
-use Rattle.table.proofs.Calls.{calls, contract}
-use Rattle.table.proofs.Lending.{Mine, Seen, at-list, has-back, lends}
-use Rattle.table.proofs.Values.{Good, Value, bound, enum, owns-value, unsaid}
+use Rattle.walks.proofs.Prelude.{ℕ, Lft, GName, Share, ftrue, flft, Fml, SProp, ent, emp, id⊢, via, fst∗, Fun, givenOf, tables}
+use Rattle.walks.proofs.Prelude.{tablesOf, u64, owns, RefT, sliceVal, ShrSlice, Room, slice-vals, shr-slice-tells, MutSlice, mut-slice-tells}
+use Rattle.walks.proofs.Prelude.{nothing, heard, Vals, onEntry, Contract, Triple, cited, says, Stays, walkOf, ends-at, Atoms, fullShare, URA}
+use Rattle.walks.proofs.Prelude.{length, List, [], _∷_, _≡_, refl, _∙_, named, Val, Memory, Routine, Heap, WpFn, Tables}
+use Rattle.walks.proofs.Prelude.{fmOf, Given, ‵, _⊛_, ⋆, _$_, _∵_, !, qed, by, move, keep, split, join, fsplit, fjoin, suffices, frame, done, drop}
+use Rattle.walks.proofs.Prelude.{raw, use1, split3, feqL, group, agg, init, stop, from, and-then, no-more, land}
+use Rattle.walks.proofs.Steps.{elements, part, sets, slice-typed, value}
+use Rattle.walks.proofs.Parameters.{by-value, goes-gone, goes-shown, goes-still, gone, shown, still}
+use Rattle.walks.proofs.Locals.{enters, finish, full, leaves, span}
+use Rattle.walks.proofs.Entries.{Entry}
+use Rattle.walks.proofs.Calls.{calls, contract}
+use Rattle.walks.proofs.Lending.{Mine, Seen, at-list, has-back, lends}
+use Rattle.walks.proofs.Values.{Good, Value, bound, enum, owns-value, unsaid}
 use Rattle.paper.specs.declared.Counted.{Counted}
 use Rattle.paper.specs.declared.Head.{Head}
 use Rattle.paper.specs.declared.Record.{Record}

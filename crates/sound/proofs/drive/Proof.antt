@@ -20,7 +20,7 @@ use Rattle.paper.specs.declared.Record.{Record}
 use Rattle.paper.specs.Records.{blankEntry}
 use Rattle.paper.specs.Sound.{entry}
 use Rattle.laws.proofs.Lists.{both-true}
-use Rattle.table.proofs.Asking.{Hand, Law, Next, asking-meets}
+use Rattle.walks.proofs.Asking.{Hand, Law, Next, asking-meets}
 use Rattle.sound.specs.Passing.{AllSound, Passed, Ready, SoundRecord, Weighing}
 use Rattle.sound.specs.Steps.{State, Steps, Weighable, failed, further, rowsFound}
 use Rattle.sound.proofs.OneMore.{weighs-more}

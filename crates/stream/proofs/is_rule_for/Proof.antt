@@ -6,7 +6,7 @@ use native.Mathlib.Omega.{arith}
 use borrow.Author.Needs.{needs}
 use lib.Dec.{eqb}
 use lib.ListN.{getD}
-use Rattle.laws.specs.StreamRows.{RuleKind}
+use Rattle.laws.specs.StreamCauses.{RuleKind}
 use Rattle.stream.proofs.Rules.{by-label, no-rule-kind, other-kind, rule-between}
 use Rattle.stream.proofs.is_rule_for.Statement.{statement}
 use Rattle.stream.proofs.is_rule_for.Tie as tie

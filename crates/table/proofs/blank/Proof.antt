@@ -1,25 +1,25 @@
 -- `table::blank` meets its contract: a walk of its MIR, by hand. The borrow is opened once, before the loop, and closed once, after it.
 -- First what a turn does to the list of entries, then how the walk ends, the loop, and the whole.
 -- Assumes nothing.
-use Rattle.table.proofs.Prelude.{ℕ, _<_, _*_, _^_, _≤_, _+_, _-_, Lft, GName, Share, ftrue, flft, Fml, SProp, ent, emp, via, fst∗, Fun}
-use Rattle.table.proofs.Prelude.{givenOf, tables, tablesOf, row, owns, RefT, now, sliceVal, Room, slice-vals, MutSlice, mut-slice-tells}
-use Rattle.table.proofs.Prelude.{nothing, Vals, onEntry, says, Stays, walkOf, ends-at, Atoms, fullShare, URA, Tr, ltb, ltb→lt, lit<, length}
-use Rattle.table.proofs.Prelude.{set, length-set, List, [], _∷_, _≡_, refl, sym, ap, _∙_, named, w64, Ty, Val, vint, vunit, zero-add, arith}
-use Rattle.table.proofs.Prelude.{Memory, Routine, Heap, WpFn, Tables, Wp, afterSeq, afterBlock, atReturn, afterTurn, Given, ‵, _⊛_, ⋆, _$_}
-use Rattle.table.proofs.Prelude.{_∵_, !, qed, by, move, keep, split, join, fsplit, fjoin, suffices, frame, done, feqI, Item, Sq, runs, anyQ}
-use Rattle.table.proofs.Prelude.{atRet, agg, look, forget, stop, hop, from, lit, of-opd, bin, assigns, store-raw, unit-lit, store, and-then}
-use Rattle.table.proofs.Prelude.{no-more, assigns-last, first, blocks, exec}
+use Rattle.walks.proofs.Prelude.{ℕ, _<_, _*_, _^_, _≤_, _+_, _-_, Lft, GName, Share, ftrue, flft, Fml, SProp, ent, emp, via, fst∗, Fun}
+use Rattle.walks.proofs.Prelude.{givenOf, tables, tablesOf, row, owns, RefT, now, sliceVal, Room, slice-vals, MutSlice, mut-slice-tells}
+use Rattle.walks.proofs.Prelude.{nothing, Vals, onEntry, says, Stays, walkOf, ends-at, Atoms, fullShare, URA, Tr, ltb, ltb→lt, lit<, length}
+use Rattle.walks.proofs.Prelude.{set, length-set, List, [], _∷_, _≡_, refl, sym, ap, _∙_, named, w64, Ty, Val, vint, vunit, zero-add, arith}
+use Rattle.walks.proofs.Prelude.{Memory, Routine, Heap, WpFn, Tables, Wp, afterSeq, afterBlock, atReturn, afterTurn, Given, ‵, _⊛_, ⋆, _$_}
+use Rattle.walks.proofs.Prelude.{_∵_, !, qed, by, move, keep, split, join, fsplit, fjoin, suffices, frame, done, feqI, Item, Sq, runs, anyQ}
+use Rattle.walks.proofs.Prelude.{atRet, agg, look, forget, stop, hop, from, lit, of-opd, bin, assigns, store-raw, unit-lit, store, and-then}
+use Rattle.walks.proofs.Prelude.{no-more, assigns-last, first, blocks, exec}
 use types.Kit as Kit
 use lib.ListN.{replicate, length-replicate, getD-replicate}
 use lib.Seq.{paste, paste-zero}
 use Rattle.paper.specs.declared.Record.{Record}
 use Rattle.paper.specs.Records.{blankEntry}
-use Rattle.table.proofs.Steps.{number-typed, slice-typed, rv-is, value, part, sets}
-use Rattle.table.proofs.Parameters.{still, goes-still}
-use Rattle.table.proofs.Locals.{finish, full, bare, locals, Blocks, envOf, enters, leaves, span}
-use Rattle.table.proofs.Loops.{tests, Onward, whiles, again, not-less}
-use Rattle.table.proofs.Entries.{entry-place, Entry, lowered, typed, place-fits, blank-good, entry-out, entry-put}
-use Rattle.table.proofs.Lending.{at-list, Mine, Waiting, opens, shuts}
+use Rattle.walks.proofs.Steps.{number-typed, slice-typed, rv-is, value, part, sets}
+use Rattle.walks.proofs.Parameters.{still, goes-still}
+use Rattle.walks.proofs.Locals.{finish, full, bare, locals, Blocks, envOf, enters, leaves, span}
+use Rattle.walks.proofs.Loops.{tests, Onward, whiles, again, not-less}
+use Rattle.walks.proofs.Entries.{entry-place, Entry, lowered, typed, place-fits, blank-good, entry-out, entry-put}
+use Rattle.walks.proofs.Lending.{at-list, Mine, Waiting, opens, shuts}
 use Rattle.table.proofs.Copies.{paste-next, pasted-all}
 use Rattle.table.proofs.blank.Key.{name as #table·blank}
 use Rattle.table.proofs.blank as blank

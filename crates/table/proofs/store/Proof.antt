@@ -1,29 +1,29 @@
 -- `table::store` meets its contract: a walk of its MIR, by hand. The table's borrow is opened once, before the loop, and closed once, after
 -- it; the batch is shown to `record_at` in each turn. First the two calls, then how the walk ends, the loop, and the whole.
 -- Assumes nothing.
-use Rattle.table.proofs.Prelude.{ℕ, _<_, _*_, _^_, _≤_, _+_, _-_, Lft, GName, Share, ftrue, flft, Fml, SProp, ent, sep, emp, id⊢, via, fst∗}
-use Rattle.table.proofs.Prelude.{Fun, givenOf, tables, tablesOf, usize, u16, row, uint-vals, uint-tells, uint-lawful, owns, RefT, now}
-use Rattle.table.proofs.Prelude.{sliceVal, ShrSlice, Room, slice-vals, shr-slice-tells, MutSlice, mut-slice-tells, nothing, heard, Vals}
-use Rattle.table.proofs.Prelude.{onEntry, Contract, Triple, cited, says, Stays, AllGo, walkOf, ends-at, Atoms, sem, fullShare, URA, Tr, ltb}
-use Rattle.table.proofs.Prelude.{ltb→lt, lit<, length, set, length-set, List, [], _∷_, _≡_, refl, sym, ap, _∙_, named, w64, Ty, Val, vint}
-use Rattle.table.proofs.Prelude.{vunit, arith, Memory, Routine, Heap, WpFn, Tables, Wp, afterSeq, afterBlock, atReturn, afterTurn, fmOf, Given}
-use Rattle.table.proofs.Prelude.{‵, _⊛_, ⋆, _$_, _∵_, !, qed, by, move, keep, split, join, fsplit, fjoin, suffices, frame, done, drop, feqI}
-use Rattle.table.proofs.Prelude.{Item, raw, Sq, runs, anyQ, atRet, use1, split3, use0, use2, look, init, forget, stop, hop, from, lit, of-opd}
-use Rattle.table.proofs.Prelude.{bin, assigns, store-raw, unit-lit, store, and-then, no-more, assigns-last, land, first, blocks, exec}
+use Rattle.walks.proofs.Prelude.{ℕ, _<_, _*_, _^_, _≤_, _+_, _-_, Lft, GName, Share, ftrue, flft, Fml, SProp, ent, sep, emp, id⊢, via, fst∗}
+use Rattle.walks.proofs.Prelude.{Fun, givenOf, tables, tablesOf, usize, u16, row, uint-vals, uint-tells, uint-lawful, owns, RefT, now}
+use Rattle.walks.proofs.Prelude.{sliceVal, ShrSlice, Room, slice-vals, shr-slice-tells, MutSlice, mut-slice-tells, nothing, heard, Vals}
+use Rattle.walks.proofs.Prelude.{onEntry, Contract, Triple, cited, says, Stays, AllGo, walkOf, ends-at, Atoms, sem, fullShare, URA, Tr, ltb}
+use Rattle.walks.proofs.Prelude.{ltb→lt, lit<, length, set, length-set, List, [], _∷_, _≡_, refl, sym, ap, _∙_, named, w64, Ty, Val, vint}
+use Rattle.walks.proofs.Prelude.{vunit, arith, Memory, Routine, Heap, WpFn, Tables, Wp, afterSeq, afterBlock, atReturn, afterTurn, fmOf, Given}
+use Rattle.walks.proofs.Prelude.{‵, _⊛_, ⋆, _$_, _∵_, !, qed, by, move, keep, split, join, fsplit, fjoin, suffices, frame, done, drop, feqI}
+use Rattle.walks.proofs.Prelude.{Item, raw, Sq, runs, anyQ, atRet, use1, split3, use0, use2, look, init, forget, stop, hop, from, lit, of-opd}
+use Rattle.walks.proofs.Prelude.{bin, assigns, store-raw, unit-lit, store, and-then, no-more, assigns-last, land, first, blocks, exec}
 use types.Kit as Kit
 use lib.Seq.{paste, paste-zero}
 use denote.Slice.{shr-slice-copy}
 use Rattle.paper.specs.declared.Record.{Record}
 use Rattle.paper.specs.Records.{blankEntry}
 use Rattle.table.specs.Batch.{recordAt, recordsIn, fitted, stored}
-use Rattle.table.proofs.Steps.{value, part, sets, rv-is, slice-typed, number-typed, owns-number}
-use Rattle.table.proofs.Parameters.{by-value, shown, still, gone, goes-still, goes-shown, goes-number}
-use Rattle.table.proofs.Locals.{finish, full, bare, locals, Blocks, envOf, enters, leaves, span}
-use Rattle.table.proofs.Loops.{tests, Onward, whiles, again, not-less}
-use Rattle.table.proofs.Entries.{entry-place, Entry, lowered, entry-tells, typed, place-fits, entry-out, entry-put}
-use Rattle.table.proofs.Lending.{at-list, Mine, Seen, Waiting, opens, shuts}
+use Rattle.walks.proofs.Steps.{value, part, sets, rv-is, slice-typed, number-typed, owns-number}
+use Rattle.walks.proofs.Parameters.{by-value, shown, still, gone, goes-still, goes-shown, goes-number}
+use Rattle.walks.proofs.Locals.{finish, full, bare, locals, Blocks, envOf, enters, leaves, span}
+use Rattle.walks.proofs.Loops.{tests, Onward, whiles, again, not-less}
+use Rattle.walks.proofs.Entries.{entry-place, Entry, lowered, entry-tells, typed, place-fits, entry-out, entry-put}
+use Rattle.walks.proofs.Lending.{at-list, Mine, Seen, Waiting, opens, shuts}
 use Rattle.table.proofs.Copies.{paste-next}
-use Rattle.table.proofs.Calls.{contract, calls}
+use Rattle.walks.proofs.Calls.{contract, calls}
 use Rattle.table.proofs.Batches.{within, length-records, record-in, pasted-stored}
 use Rattle.table.proofs.fitting as fitting
 use Rattle.table.proofs.fitting.Symbol as fitting-def

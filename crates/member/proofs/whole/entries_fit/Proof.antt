@@ -13,13 +13,13 @@ use Rattle.member.proofs.whole.entries_fit.Tie as tie
 -- and `rest` has the places that are left
 abbrev Inv-loop : tie.InvT-loop
 Inv-loop head row rest₀ i₀ rest i =
-    (i ≤ length row) × (entriesFit head 0 row ≡ entriesFit head i (drop i row)) × ((j : ℕ) → hasPlace (head .places) (i + j) ≡ hasPlace rest j)
+    (i ≤ length row) × (entriesFit head 0 row ≡ entriesFit head i (drop i row)) × ((j : ℕ) → hasPlace (head .open_places) (i + j) ≡ hasPlace rest j)
 
 abbrev μ-loop : tie.MeasureT-loop
 μ-loop head row rest₀ i₀ rest i = length row - i
 
 loop-holds : tie.Need-loop-holds Inv-loop μ-loop
-loop-holds c = (omega arith, refl, λ j. let z : 0 + j ≡ j = omega arith in ap (hasPlace (c .before .args .head .places)) z)
+loop-holds c = (omega arith, refl, λ j. let z : 0 + j ≡ j = omega arith in ap (hasPlace (c .before .args .head .open_places)) z)
 
 mul-entry-fits : tie.Need-mul-entry-fits Inv-loop μ-loop
 mul-entry-fits c = omega arith

@@ -43,8 +43,8 @@ unfolding headFits
 returns-5 c =
     let few = c .before .before .before in
     let h = few .before .before .before .before .before .before .before .before .args .head in
-    let high : 2 ^ h .arity ≤ h .places = omega (arith, c .if5 .taken, shifted (h .arity) (few .if4 .left)) in
-    simp (le-ltb (h .places) (2 ^ h .arity) high, and-false)
+    let high : 2 ^ h .arity ≤ h .open_places = omega (arith, c .if5 .taken, shifted (h .arity) (few .if4 .left)) in
+    simp (le-ltb (h .open_places) (2 ^ h .arity) high, and-false)
 
 cast-result : tie.Need-cast-result
 cast-result c = search needs
@@ -59,10 +59,10 @@ returns-6 c =
     let few-nodes = some-places .before .before in
     let some-nodes = few-nodes .before .before in
     let h = some-nodes .before .before .args .head in
-    let low : h .places < 2 ^ h .arity = omega (arith, places .if5 .left, shifted (h .arity) (few-places .if4 .left)) in
+    let low : h .open_places < 2 ^ h .arity = omega (arith, places .if5 .left, shifted (h .arity) (few-places .if4 .left)) in
     sym
     (last-decides _ (le-leb _ _ (some-nodes .if1 .left)) (le-leb _ _ (few-nodes .if2 .left)) (le-leb _ _ (some-places .if3 .left))
-    (le-leb _ _ (few-places .if4 .left)) (lt-ltb (h .places) (2 ^ h .arity) low) (le-leb _ _ (used .if6 .taken)))
+    (le-leb _ _ (few-places .if4 .left)) (lt-ltb (h .open_places) (2 ^ h .arity) low) (le-leb _ _ (used .if6 .taken)))
 
 returns-7 : tie.Need-returns-7
 unfolding headFits

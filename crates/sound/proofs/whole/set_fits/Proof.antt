@@ -15,7 +15,7 @@ use Rattle.sound.proofs.whole.set_fits.Tie as tie
 
 -- a root that is a used record, and one that is not
 module _ (h : Head) (weights : List ℕ) {i : ℕ} where
-  record-fits : i < h .used → eqb (flagIn (getD weights i 0)) (h .places) ≡ setFits h weights (at i)
+  record-fits : i < h .used → eqb (flagIn (getD weights i 0)) (h .open_places) ≡ setFits h weights (at i)
   record-fits l = rw (lt-ltb i (h .used) l)
 
   record-late : h .used ≤ i → ltb i (h .used) ≡ setFits h weights (at i)

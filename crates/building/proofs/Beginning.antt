@@ -1,0 +1,218 @@
+-- The beginning of a build. First that a refusal of the tree, of the query or of the work is the build's, with a number up to 5; then
+-- that the building comes to the first node.
+use mathlib.Core.Bool.{Bool, cond, false, true}
+use mathlib.Core.List.{List, [], _++_, _∷_}
+use mathlib.Core.Path.{_∙_, _≡_, ap, ap₂, refl, subst, sym}
+use Prim.Native.Nat.{_*_, _+_, _<_, _≤_, min, ℕ}
+use native.Mathlib.Nat.{zero-mul}
+use native.Mathlib.Omega.{arith}
+use borrow.Author.Tests.{lt-leb}
+use lib.ListN.{drop, length}
+use Rattle.paper.specs.Refusals.{Test, answer, atEach, build, headFrom, madeFrom, nodesIn, queryIn, queryPart, queryTests, refused}
+use Rattle.paper.specs.Refusals.{treePart, treeTests, unless, workFor}
+use Rattle.paper.specs.Stream.{StreamRecord, queryRecords, recordsOf, treeRecords}
+use Rattle.paper.specs.Tree.{mostUnjoined}
+use Rattle.laws.proofs.ReadTree.{tree-read}
+use Rattle.laws.proofs.Replies.{Passes, answered, refused-inj, refused-not-answer, unless-append}
+use Rattle.stream.specs.declared.QueryFacts.{QueryFacts}
+use Rattle.stream.specs.declared.TreeFacts.{TreeFacts}
+use Rattle.stream.specs.Reading.{queryFacts, queryReply, treeFacts, treeReply}
+use Rattle.stream.proofs.AfterTree.{facts-after-tree, reply-after-tree}
+use Rattle.stream.proofs.EachRecord.{refused-append}
+use Rattle.building.specs.Frames.{width}
+use Rattle.building.specs.Coming.{Come, Coming}
+use Rattle.building.specs.Standing.{AtNode, InWork, State}
+use Rattle.building.specs.Whole.{Started}
+use Rattle.building.proofs.Frames.{frames-at-most, work-frames}
+use Rattle.building.proofs.Present.{most-nodes}
+use Rattle.building.proofs.ReadInput.{few-states, query-part-passes, small-arity, tree-passes}
+
+-- ---- numbers up to 5
+abbrev Low : List Test → Type 0
+Low [] = Unit {0}
+Low (t ∷ ts) = (t .0 ≤ 5) × Low ts
+
+low-append : (ts us : List Test) → Low ts → Low us → Low (ts ++ us)
+low-append [] us h g = g
+low-append (t ∷ ts) us h g = (h .0, low-append ts us (h .1) g)
+
+low-each : (tests : List StreamRecord → StreamRecord → List Test) → ((before : List StreamRecord) (r : StreamRecord) → Low (tests before r))
+    → (before rs : List StreamRecord) → Low (atEach tests before rs)
+low-each tests h before [] = tt
+low-each tests h before (r ∷ rs) =
+    low-append (tests before r) (atEach tests (before ++ (r ∷ [])) rs) (h before r) (low-each tests h (before ++ (r ∷ [])) rs)
+
+low-refused : {A : Type 0} (ts : List Test) (a : A) {n : ℕ} → Low ts → unless ts a ≡ refused n → n ≤ 5
+low-refused [] a h e = absurd (refused-not-answer (sym e))
+low-refused {A} (t ∷ ts) a {n} h e = go (t .1) e (low-refused ts a (h .1))
+  where
+    go : (c : Bool) → cond c (unless ts a) (refused (t .0)) ≡ refused n → (unless ts a ≡ refused n → n ≤ 5) → n ≤ 5
+    go true w ih = ih w
+    go false w ih = omega (arith, h .0, refused-inj w)
+
+low-tree : (records : List StreamRecord) → Low (treePart records)
+low-tree records = low-append (atEach treeTests [] records) _ (low-each treeTests (λ before r. omega arith) [] records) (omega arith)
+
+low-query-tests : (before : List StreamRecord) (r : StreamRecord) → Low (queryTests before r)
+low-query-tests [] r = omega arith
+low-query-tests (h ∷ before) r = omega arith
+
+low-query : (records : List StreamRecord) → Low (queryPart records)
+low-query records = low-append (atEach queryTests [] records) _ (low-each queryTests low-query-tests [] records) (omega arith)
+
+-- ---- refusals
+module _ (input : List ℕ) (workLength tableLength : ℕ) where
+  -- of the tree
+  pub tree-refused : {n : ℕ} → refused n ≡ treeReply input → (build input workLength tableLength ≡ refused n) × (n ≤ 5)
+  tree-refused e = (
+    refused-append (treePart (treeRecords (recordsOf input))) _ (treeFacts input) (headFrom input, madeFrom input) (sym e),
+    low-refused (treePart (treeRecords (recordsOf input))) (treeFacts input) (low-tree (treeRecords (recordsOf input))) (sym e),
+  )
+
+  module _ (tree : Passes (treePart (treeRecords (recordsOf input)))) where
+    -- of the query
+    query-refused : {n : ℕ} → refused n ≡ queryReply input (2 * nodesIn input) → (build input workLength tableLength ≡ refused n) × (n ≤ 5)
+    query-refused {n} e = (
+      unless-append (treePart (treeRecords (recordsOf input))) _ (headFrom input, madeFrom input) tree
+          ∙ refused-append (queryPart records) _ (queryFacts input (2 * nodesIn input)) (headFrom input, madeFrom input) reply,
+      low-refused (queryPart records) (queryFacts input (2 * nodesIn input)) (low-query records) reply,
+    )
+      where
+        records : List StreamRecord
+        records = queryRecords (recordsOf input)
+
+        reply : unless (queryPart (queryRecords (recordsOf input))) (queryFacts input (2 * nodesIn input)) ≡ refused n
+        reply = sym (reply-after-tree input) ∙ sym e
+
+    -- of the work
+    work-refused : Passes (queryPart (queryRecords (recordsOf input))) → workLength < workFor input → build input workLength tableLength ≡ refused 5
+    work-refused query short =
+        unless-append (treePart (treeRecords (recordsOf input))) _ (headFrom input, madeFrom input) tree
+        ∙ unless-append (queryPart (queryRecords (recordsOf input))) _ (headFrom input, madeFrom input) query
+        ∙ rw (lt-leb (workFor input) workLength short) refl
+
+-- ---- what was read
+pub record ReadFacts (input : List ℕ) (tree : TreeFacts) (query : QueryFacts) : Type 0 where
+  pub tree-reply : treeReply input ≡ answer (treeFacts input)
+  pub query-reply : queryReply input (2 * nodesIn input) ≡ answer (queryFacts input (2 * nodesIn input))
+  pub nodes : tree .nodes ≡ nodesIn input
+  pub most : tree .most ≡ mostUnjoined (treeRecords (recordsOf input))
+  pub rules : query .rules ≡ 2 * nodesIn input + 3
+  pub arity : query .arity ≡ queryIn input .arity
+  pub states : query .states ≡ queryIn input .states
+
+-- the tree that is answered ends behind its nodes
+tree-end : (input : List ℕ) (tree : TreeFacts) → answer tree ≡ treeReply input → tree .end ≡ 2 * nodesIn input
+tree-end input tree e = sym (ap (λ (f : TreeFacts). f .end) (answered (treePart (treeRecords (recordsOf input))) (sym e) .1))
+
+pub read-facts : (input : List ℕ) (tree : TreeFacts) (query : QueryFacts) → answer tree ≡ treeReply input
+    → answer query ≡ queryReply input (tree .end) → ReadFacts input tree query
+read-facts input tree query e e′ = record {
+  tree-reply = sym e ∙ ap answer (sym tree-is);
+  query-reply = sym here ∙ ap answer (sym query-is);
+  nodes = sym (ap (λ (f : TreeFacts). f .nodes) tree-is);
+  most = sym (ap (λ (f : TreeFacts). f .most) tree-is);
+  rules = sym (ap (λ (f : QueryFacts). f .rules) query-is);
+  arity = ap (λ (f : QueryFacts). f .arity) (sym query-is ∙ facts-after-tree input);
+  states = ap (λ (f : QueryFacts). f .states) (sym query-is ∙ facts-after-tree input);
+}
+  where
+    tree-is : treeFacts input ≡ tree
+    tree-is = answered (treePart (treeRecords (recordsOf input))) (sym e) .1
+
+    here : answer query ≡ queryReply input (2 * nodesIn input)
+    here = e′ ∙ ap (queryReply input) (tree-end input tree e)
+
+    query-is : queryFacts input (2 * nodesIn input) ≡ query
+    query-is = answered (queryPart (recordsOf (drop (2 * nodesIn input) input))) (sym here) .1
+
+-- a query behind a tree that is answered
+pub query-refused-at : (input : List ℕ) (workLength tableLength : ℕ) {tree : TreeFacts} {n : ℕ} → answer tree ≡ treeReply input
+    → refused n ≡ queryReply input (tree .end) → (build input workLength tableLength ≡ refused n) × (n ≤ 5)
+query-refused-at input workLength tableLength {tree} e e′ =
+    query-refused input workLength tableLength (answered (treePart (treeRecords (recordsOf input))) (sym e) .0)
+    (e′ ∙ ap (queryReply input) (tree-end input tree e))
+
+module _ (input : List ℕ) (tree : TreeFacts) (query : QueryFacts) (f : ReadFacts input tree query) where
+  passes : Passes (treePart (treeRecords (recordsOf input)))
+  passes = tree-passes input (f .tree-reply)
+
+  -- in numbers that the code can count with
+  pub small : (tree .most ≤ 4095) × (query .arity ≤ 4) × (query .states ≤ 16)
+  small = (
+    omega (arith, f .most, most-nodes (treeRecords (recordsOf input)), tree-read (treeRecords (recordsOf input)) passes .2),
+    omega (arith, f .arity, small-arity input (f .query-reply) .1),
+    omega (arith, f .states, few-states input (f .query-reply) .1),
+  )
+
+  pub asked-fits : {n : ℕ} → n ≡ width (query .arity) (query .states) → (1 + tree .most) * n ≤ 1048576
+  asked-fits {n} e =
+      omega (
+        arith,
+        ap (λ x. (1 + tree .most) * x) e,
+        frames-at-most (query .arity) (query .states) (1 + tree .most) (small .1) (small .2) (omega (arith, small .0)),
+      )
+
+  -- the work asked for
+  pub asked-is : {n : ℕ} → n ≡ width (query .arity) (query .states) → (1 + tree .most) * n ≡ workFor input
+  asked-is e =
+      ap₂ (λ m n. (1 + m) * n) (f .most) (e ∙ ap₂ width (f .arity) (f .states))
+      ∙ sym (work-frames (mostUnjoined (treeRecords (recordsOf input))) (queryIn input))
+
+  -- too short
+  pub short-work : (work : List ℕ) (tableLength : ℕ) {n : ℕ} → n ≡ width (query .arity) (query .states) → length work < (1 + tree .most) * n
+      → build input (length work) tableLength ≡ refused 5
+  short-work work tableLength e h =
+      work-refused input (length work) tableLength passes (query-part-passes input (f .query-reply)) (omega (arith, asked-is e))
+
+  -- the first node
+  first-node : (records : List StreamRecord) → treeRecords (recordsOf input) ≡ records
+      → (n : AtNode input 0 0 0) × (n .earlier ≡ []) × (n .stack ≡ [])
+  first-node [] e = absurd (omega (arith, tree-read (treeRecords (recordsOf input)) passes .1, ap length e))
+  first-node (r ∷ rs) e =
+      let n : AtNode input 0 0 0 = record {
+        before = [];
+        here = r;
+        behind = rs;
+        records = e;
+        number = refl;
+        place = refl;
+        earlier = [];
+        stack = [];
+        passed = refl;
+        high = refl;
+      } in
+      (n, refl, refl)
+
+  module _ (t : State) (work : List ℕ) (entries : ℕ) (limit : t .limit ≡ min entries 60000) where
+    -- a state with the numbers that were read comes to it
+    pub comes-first : t .going ≡ true → t .over ≡ false → t .from ≡ 0 → t .count ≡ 0 → t .nodes ≡ tree .nodes → t .rules ≡ query .rules
+        → t .arity ≡ query .arity → t .states ≡ query .states → t .asked ≡ workFor input → t .asked ≤ length work → Coming input t 0 0 0 work []
+    comes-first going over from count nodes rules arity states asked room =
+        let (n, none, empty-stack) = first-node (treeRecords (recordsOf input)) refl in
+        record {
+          going = going;
+          over = over;
+          constants = record {
+            tree = f .tree-reply;
+            query = f .query-reply;
+            nodes = nodes ∙ f .nodes;
+            rules = rules ∙ f .rules;
+            arity = arity ∙ f .arity;
+            states = states ∙ f .states;
+            asked = asked;
+            limit = omega arith;
+          };
+          here = n;
+          earlier = none;
+          frames = subst (InWork t work) (sym empty-stack)
+              (record { frames = tt; low = λ i h. absurd (omega (arith, zero-mul (width (t .arity) (t .states)))); room = room });
+          used = omega arith;
+        }
+
+    pub first-started : {r : State} {work′ : List ℕ} → Come input t 0 work [] r work′ → Started input work entries r work′
+    first-started {work′ = work′} c = record {
+      standing = c .standing;
+      limit = c .limit ∙ limit;
+      rest = subst (λ n. drop n work′ ≡ drop n work) (sym (c .asked)) (c .rest);
+    }

@@ -1,0 +1,127 @@
+-- `building::drive` meets its contract: an instance of the law of the building loop (`table`). What stands here is of plain values.
+-- Assumes nothing.
+use mathlib.Core.Bool.{true, false, true≢false}
+use mathlib.Core.List.{List, [], _++_}
+use mathlib.Core.Path.{_≡_, refl, sym, _∙_, subst}
+use Prim.Native.Nat.{ℕ, _+_, _≤_, _<_}
+use native.Mathlib.Omega.{arith}
+use lib.ListN.{length, drop}
+use mir.Syntax.{w64, tyInt}
+use contract.Running.{givenOf, tables, tablesOf}
+use denote.Builtin.{u64}
+use denote.Triple.Spec.{tripleOf}
+use denote.Triple.Table.{entered, cited}
+use Rattle.paper.specs.Refusals.{over}
+use Rattle.table.specs.Batch.{stored}
+use Rattle.table.proofs.Building.{Hand, Law, Step, Store, building-meets, turned}
+use Rattle.table.proofs.store.Symbol as store-def
+use Rattle.table.proofs.store.Symbol.{name as #table·store}
+use Rattle.table.proofs.store.Met as store-thm
+use Rattle.building.specs.Batch.{Record, recordsIn}
+use Rattle.building.specs.Standing.{State, Standing, Stopped, Stepped, IsStanding, Turned, turnsLeft}
+use Rattle.building.specs.Driving.{Ready, Driven}
+use Rattle.building.proofs.Storing.{stored-behind}
+use Rattle.building.proofs.StateShape.{shape, from-field, count-field}
+use Rattle.building.proofs.step.step.Symbol as step-def
+use Rattle.building.proofs.step.step.Symbol.{name as #step}
+use Rattle.building.proofs.step.step.Met as step-thm
+use Rattle.building.proofs.drive.Key.{name as #drive}
+use Rattle.building.proofs.drive as drive
+use Rattle.building.proofs.drive.Statement as stated
+use Rattle.building.proofs.drive.Code as code
+
+abbrev Held : Type 0
+Held = Hand u64 shape
+
+-- what a turn leaves
+abbrev after : Held → State → List ℕ → List ℕ → Held
+after x s w b = turned u64 shape from-field count-field (x .table) s w b
+
+-- ---- before each turn
+-- the records made are the table's first ones, and the building goes on from them, or has stopped with them
+record Before (input : List ℕ) (x₀ x : Held) : Type 0 where
+  made : List Record
+  limit : x .state .limit ≡ x₀ .state .limit
+  asked : x .state .asked ≡ x₀ .state .asked
+  entries : x₀ .state .limit ≤ length (x₀ .table)
+  room : 3240 ≤ length (x₀ .batch)
+  written : x .table ≡ over made (x₀ .table)
+  kept : drop (x₀ .state .asked) (x .work) ≡ drop (x₀ .state .asked) (x₀ .work)
+  goes : x .state .going ≡ true → Standing input (x .state) (x .work) made
+  fits : x .state .from + x .state .count ≤ x .state .limit
+  stops : x .state .going ≡ false → Stopped input (x .state) made
+
+starts : (input : List ℕ) (x : Held) → Ready input (x .table) (x .state) (x .work) (x .batch) → Before input x x
+starts input x ready = record {
+  made = [];
+  limit = refl;
+  asked = refl;
+  entries = ready .entries;
+  room = ready .room;
+  written = refl;
+  kept = refl;
+  goes = λ _. ready .standing;
+  fits = omega (arith, ready .standing .used);
+  stops = λ stopped. absurd (true≢false (sym (ready .standing .going) ∙ stopped));
+}
+
+onward : (input : List ℕ) (x₀ x : Held) (s : State) (w b : List ℕ) → length b ≡ length (x₀ .batch) → Before input x₀ x → x .state .going ≡ true
+    → Turned input (x .state) (x .work) s w b
+    → Before input x₀ (after x s w b) × (turnsLeft input s < turnsLeft input (x .state))
+onward input x₀ x s w b long before going told = (
+  record {
+    made = before .made ++ recordsIn (s .count) b;
+    limit = turn .limit ∙ before .limit;
+    asked = turn .asked ∙ before .asked;
+    entries = before .entries;
+    room = before .room;
+    written =
+        (λ i. stored (before .written i) (turn .from i) b (s .count))
+        ∙ stored-behind (before .made) (x₀ .table) b (s .count)
+        (omega (arith, turn .fits, turn .from, turn .limit, before .limit, before .entries)) (omega (arith, turn .count, before .room, long));
+    kept = subst (λ (n : ℕ). drop n w ≡ drop n (x .work)) (before .asked) (turn .rest) ∙ before .kept;
+    goes = turn .goes;
+    fits = turn .fits;
+    stops = turn .stops;
+  },
+  turn .falls,
+)
+  where
+    turn : Stepped input (x .state) (x .work) (before .made) s w b
+    turn = told (before .made) (before .goes going) (before .fits)
+
+stops : (input : List ℕ) (x₀ x : Held) → Before input x₀ x → x .state .going ≡ false
+    → Driven input (x₀ .table) (x₀ .state) (x₀ .work) (x .table) (x .state) (x .work)
+stops input x₀ x before stopped = record {
+  all = before .made;
+  stopped = before .stops stopped;
+  limit = before .limit;
+  written = before .written;
+  kept = before .kept;
+}
+
+abbrev law : Law u64 shape from-field count-field
+law = record {
+  Ask = λ i s w b. IsStanding i s w × (3240 ≤ length b);
+  Tell = λ i s w b s′ w′ b′. Turned i s w s′ w′ b′;
+  Ready = λ i x. Ready i (x .table) (x .state) (x .work) (x .batch);
+  Built = λ i x y. Driven i (x .table) (x .state) (x .work) (y .table) (y .state) (y .work);
+  Before = Before;
+  falls = λ i x. turnsLeft i (x .state);
+  starts = starts;
+  asks = λ i x₀ x long before going. ((before .made, before .goes going, before .fits), omega (arith, before .room, long .1 .1));
+  onward = λ i x₀ x s w b long long′ before going told. onward i x₀ x s w b (long′ .1 .1) before going told;
+  stops = stops;
+}
+
+pub drive-spec : {M : Type 1} → stated.statement M
+unfolding code.routine tablesOf
+drive-spec 𝓤 H 𝓜 𝓖 𝓡 =
+    entered 𝓤 H (tripleOf 𝓤 H (𝓖 .A) drive.signature (drive.spec 𝓤 H (𝓖 .A) (𝓜 .mem) (𝓡 .run)))
+    (tables 𝓤 H 𝓜 𝓡 code.env .C) (tables 𝓤 H 𝓜 𝓡 code.env .Λ) #drive code.function (code.unfolded 𝓤 H 𝓜 𝓡)
+    (building-meets u64 shape from-field count-field law 𝓤 H (𝓖 .A) (𝓜 .mem) (𝓡 .run) (givenOf 𝓤 H 𝓜 𝓖) (tyInt w64) #step #table·store
+    (tablesOf 𝓤 H 𝓜 (tables 𝓤 H 𝓜 𝓡 code.env))
+    (cited 𝓤 H (Step u64 shape from-field count-field law 𝓤 H (𝓖 .A) (𝓜 .mem) (𝓡 .run)) 𝓜 𝓡 code.env #step step-def.routine
+    code.calls-build·step·step (step-thm.met 𝓤 H 𝓜 𝓖 𝓡))
+    (cited 𝓤 H (Store u64 shape from-field count-field law 𝓤 H (𝓖 .A) (𝓜 .mem) (𝓡 .run)) 𝓜 𝓡 code.env #table·store store-def.routine
+    code.calls-table·store (store-thm.met 𝓤 H 𝓜 𝓖 𝓡)))

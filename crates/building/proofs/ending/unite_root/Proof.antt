@@ -1,0 +1,104 @@
+-- `ending::unite_root` unites the slot of one more state, if that is accepting.
+use Prim.Native.Nat.{_+_, _-_, _<_, _≤_}
+use native.Mathlib.Omega.{arith}
+use borrow.Author.Needs.{needs}
+use lib.ListN.{length}
+use Rattle.building.specs.Slots.{slotAt}
+use Rattle.building.proofs.Roots.{RootReady, next-skipped, next-united, root-ready}
+use Rattle.building.proofs.ending.unite_root.Statement.{statement}
+use Rattle.building.proofs.ending.unite_root.Tie as tie
+
+-- what is known from the start
+ready : (c : tie.Start) → RootReady (c .args .input .now) (c .args .t) (c .args .work .now) (c .args .state)
+ready c =
+    let a = c .args in
+    root-ready (a .input .now) (a .t) (a .work .now) (c .pre .0 .0 .0) (c .pre .0 .0 .1) (a .state) (c .pre .1 .0 .0)
+
+cast-is-accepting : tie.Need-cast-is-accepting
+cast-is-accepting c = omega (arith, ready (c .before .before .before))
+
+is-accepting-requires : tie.Need-is-accepting-requires
+is-accepting-requires c κs = search needs
+
+returns : tie.Need-returns
+returns c =
+    let start = c .before .before .before .before .before in
+    let a = start .args in
+    next-skipped (a .input .now) (a .t) (a .work .now) (start .pre .0 .0 .1 .constants) (a .state) (a .made) (start .pre .1 .1 .0) (start .pre .1 .1 .1)
+    (start .pre .1 .1 .2) (a .batch .now) (c .before .is-accepting .result) (c .before .is-accepting .ensures) (c .if1 .taken)
+
+flags-requires : tie.Need-flags-requires
+flags-requires c κs = omega (arith, ready (c .before .before .before .before .before))
+
+sub-places : tie.Need-sub-places
+sub-places c = omega (arith, ready (c .before .before .before .before .before .before))
+
+row-at-requires : tie.Need-row-at-requires
+row-at-requires c κs =
+    let start = c .before .before .before .before .before .before in
+    omega (arith, ready start, start .pre)
+
+abbrev start : tie.After-row-at → tie.Start
+start c = c .before .before .before .before .before .before .before
+
+-- the slot of all places is in the work, and its set at hand
+slot : (c : tie.After-row-at) → let s = start c in
+    (c .row-at .result + (c .before .flags .result - 1) < length (s .args .work .now))
+    × (slotAt (s .args .work .now) (c .row-at .result + (c .before .flags .result - 1)) ≤ s .args .t .from + s .args .t .count + 1)
+slot c = ready (start c) .slot (c .row-at .ensures) (c .before .flags .ensures)
+
+add-at : tie.Need-add-at
+add-at c = omega (arith, slot c, (start c) .good)
+
+cast-union : tie.Need-cast-union
+cast-union c = omega (arith, ready (start (c .before .before)))
+
+mul-union : tie.Need-mul-union
+mul-union c = omega (arith, slot (c .before .before), (start (c .before .before)) .good)
+
+shared-slice-read-union : tie.Need-shared-slice-read-union
+shared-slice-read-union c = slot (c .before .before .before) .0
+
+union-requires : tie.Need-union-requires
+union-requires c κs =
+    let row = c .before .before .before in
+    let s = start row in
+    omega (
+      arith,
+      ready s,
+      slot row,
+      s .pre,
+      s .pre .0 .0 .1 .constants .limit,
+      row .before .flags .ensures,
+    )
+
+same-length : tie.Need-same-length
+same-length c = search needs
+
+returns-2 : tie.Need-returns-2
+returns-2 c =
+    let row = c .before .before .before .before .before .before in
+    let asked = row .before .before .before in
+    let s = start row in
+    let a = s .args in
+    next-united (a .input .now) (a .t) (a .work .now) (s .pre .0 .0 .1 .constants) (a .state) (a .made) (s .pre .1 .1 .0) (s .pre .1 .1 .1)
+    (s .pre .1 .1 .2) (a .batch .now) (asked .is-accepting .result) (asked .is-accepting .ensures) (row .before .before .if1 .left) (s .pre .1 .0 .0)
+    (row .row-at .ensures) (row .before .flags .ensures) (c .before .before .union .ensures)
+
+pub unite-root-spec : {M : Type 1} → statement M
+unite-root-spec =
+    tie.close
+    (tie.spec
+    cast-is-accepting
+    is-accepting-requires
+    returns
+    flags-requires
+    sub-places
+    row-at-requires
+    add-at
+    cast-union
+    mul-union
+    shared-slice-read-union
+    union-requires
+    same-length
+    returns-2)

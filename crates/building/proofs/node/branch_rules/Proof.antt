@@ -1,0 +1,166 @@
+-- `node::branch_rules` does rules of a branch. The loop's invariant: the building stands at the present rule.
+use mathlib.Core.List.{List, _++_}
+use mathlib.Core.Logic.{inl, inr, ⊎-elim}
+use mathlib.Core.Path.{_∙_, _≡_, refl}
+use native.Mathlib.Omega.{arith}
+use borrow.Author.Tests.{leb-false, leb-true}
+use lib.ListN.{drop, length}
+use Rattle.paper.specs.Stream.{recordsOf}
+use Rattle.building.specs.Batch.{Record, recordsIn}
+use Rattle.building.specs.Standing.{Filling}
+use Rattle.building.specs.States.{more}
+use Rattle.building.proofs.BranchTurn.{branch-onward, branch-ready, branch-room}
+use Rattle.building.proofs.OwnRow.{Onward}
+use Rattle.building.proofs.Present.{inside-here}
+use Rattle.building.proofs.RuleLoop.{Ran, ran-ends, ran-onward, ran-starts, searched-from}
+use Rattle.building.proofs.node.branch_rules.Statement.{statement}
+use Rattle.building.proofs.node.branch_rules.Tie as tie
+
+abbrev Inv-loop : tie.InvT-loop
+Inv-loop t input work₀ batch₀ at label count₀ rule₀ work batch count rule =
+    (length batch ≡ length batch₀) × (length work ≡ length work₀)
+    × ((base : List Record) → Filling input t work₀ batch₀ base → Ran input t work₀ base count rule work batch)
+
+abbrev μ-loop : tie.MeasureT-loop
+μ-loop t input work₀ batch₀ at label count₀ rule₀ work batch count rule = length (recordsOf (drop rule input))
+
+abbrev start : tie.Then1 Inv-loop μ-loop → tie.Start Inv-loop μ-loop
+start c = c .before .before .before .before .before .before .before
+
+-- what is known in a turn
+ran : (c : tie.Then1 Inv-loop μ-loop)
+    → let b = start c in
+    let l = c .before .before .loop in
+    Ran (b .args .input .now) (b .args .t) (b .args .work .now) (b .pre .0 .0) (l .count) (l .rule) (l .work) (l .batch)
+ran c = let b = start c in c .before .before .loop .inv .2 (b .pre .0 .0) (b .pre .0 .1)
+
+abbrev turn : tie.After-next-rule Inv-loop μ-loop → tie.Then1 Inv-loop μ-loop
+turn c = c .before .before .before .before .before .before .before .before .before .before
+
+-- one more rule, whatever is in the table
+onward : (c : tie.After-next-rule Inv-loop μ-loop) (base : List Record)
+    → let t = turn c in
+    let a = (start t) .args in
+    let l = t .before .before .loop in
+    let done = c .before .before .before .before .before .before in
+    Filling (a .input .now) (a .t) (a .work .now) (a .batch .now) base
+    → Onward (a .input .now) (more (a .t) (l .count) (l .rule)) (l .work) base (done .branch-rule .result) (c .next-rule .result)
+    (done .branch-rule .last .1 .0) (done .branch-rule .last .0)
+onward c base f =
+    let t = turn c in
+    let b = start t in
+    let a = b .args in
+    let l = t .before .before .loop in
+    let done = c .before .before .before .before .before .before in
+    branch-onward (a .input .now) (more (a .t) (l .count) (l .rule)) (l .work) (l .batch) base (l .inv .2 base f .standing) (f .start)
+    (t .before .loop-test .taken) (b .pre .1 .0 .1) _ _ _ _ (done .branch-rule .kept .1 .0) (done .before .before .before .branch-at .ensures)
+    (done .branch-rule .ensures) (searched-from (omega (arith, c .before .body-length .ensures)) (c .next-rule .ensures))
+
+add-label : tie.Need-add-label Inv-loop μ-loop
+add-label c =
+    let b = c .before .before .before in
+    let s = b .pre .0 .1 .standing in
+    omega (arith, inside-here (b .args .input .now) (b .args .t) (s .constants) (s .node), b .good)
+
+shared-slice-read-label : tie.Need-shared-slice-read-label Inv-loop μ-loop
+shared-slice-read-label c =
+    let b = c .before .before .before .before in
+    let s = b .pre .0 .1 .standing in
+    omega (arith, inside-here (b .args .input .now) (b .args .t) (s .constants) (s .node))
+
+loop-holds : tie.Need-loop-holds Inv-loop μ-loop
+loop-holds c =
+    let b = c .before .before .before .before in
+    let a = b .args in
+    (refl, refl, λ base f. ran-starts (a .input .now) (a .t) (a .work .now) (a .batch .now) base f (b .pre .1 .1 .1))
+
+branch-at-requires : tie.Need-branch-at-requires Inv-loop μ-loop
+branch-at-requires c κs =
+    let b = start c in
+    let l = c .before .before .loop in
+    branch-ready (b .args .input .now) (more (b .args .t) (l .count) (l .rule)) (l .work) (b .pre .0 .0 ++ recordsIn (l .count) (l .batch))
+    (ran c .standing) (c .before .loop-test .taken) (b .pre .1 .0 .1) (b .args .t) refl refl refl
+
+branch-rule-requires : tie.Need-branch-rule-requires Inv-loop μ-loop
+branch-rule-requires c κs =
+    let here = c .before .before in
+    let t = here .before in
+    let b = start t in
+    let l = t .before .before .loop in (
+      branch-room (b .args .input .now) (more (b .args .t) (l .count) (l .rule)) (l .work) (b .pre .0 .0 ++ recordsIn (l .count) (l .batch))
+          (ran t .standing) (t .before .loop-test .taken) (b .pre .1 .0 .1) (here .branch-at .ensures) (omega (arith, b .pre .1 .1 .0, l .inv .0))
+          (omega (arith, b .pre .0 .1 .few)),
+      leb-true (l .count) 324 (t .if1 .taken),
+    )
+
+add-next-rule : tie.Need-add-next-rule Inv-loop μ-loop
+add-next-rule c =
+    let t = c .before .before .before .before .before .before .before .before in
+    omega (arith, t .before .loop-test .taken, (start t) .good)
+
+body-length-requires : tie.Need-body-length-requires Inv-loop μ-loop
+body-length-requires c κs = tt
+
+add-next-rule-2 : tie.Need-add-next-rule-2 Inv-loop μ-loop
+add-next-rule-2 c =
+    let t = c .before .before .before .before .before .before .before .before .before in
+    omega (arith, t .before .loop-test .taken, c .body-length .ensures, (start t) .good)
+
+next-rule-requires : tie.Need-next-rule-requires Inv-loop μ-loop
+next-rule-requires c κs = tt
+
+loop-less : tie.Need-loop-less Inv-loop μ-loop
+loop-less c = let b = start (turn c) in onward c (b .pre .0 .0) (b .pre .0 .1) .fewer
+
+loop-again : tie.Need-loop-again Inv-loop μ-loop
+loop-again c =
+    let t = turn c in
+    let b = start t in
+    let a = b .args in
+    let l = t .before .before .loop in
+    let done = c .before .before .before .before .before .before in (
+      done .branch-rule .kept .0 ∙ l .inv .0,
+      done .branch-rule .kept .1 .0 ∙ l .inv .1,
+      λ base f.
+          ran-onward (a .input .now) (a .t) (a .work .now) (a .batch .now) base f (b .pre .1 .1 .1) (l .inv .2 base f)
+          (leb-true (l .count) 324 (t .if1 .taken)) (onward c base f),
+    )
+
+count-records-requires : tie.Need-count-records-requires Inv-loop μ-loop
+count-records-requires c κs = omega (arith, c .before .before .before .before .before .before .pre .0 .1 .few)
+
+same-length : tie.Need-same-length Inv-loop μ-loop
+same-length c = c .before .before .loop .inv .1
+
+same-length-2 : tie.Need-same-length-2 Inv-loop μ-loop
+same-length-2 c = c .before .before .loop .inv .0
+
+returns : tie.Need-returns Inv-loop μ-loop
+returns c base f =
+    let l = c .before .before .loop in
+    let b = c .before .before .before .before .before .before .before in
+    let a = b .args in
+    ran-ends (a .input .now) (a .t) (a .work .now) (a .batch .now) base f (b .pre .1 .1 .1) (l .inv .2 base f) (b .pre .1 .0 .0)
+    (⊎-elim (λ w. inl (leb-false (l .count) 324 (w .1 .left))) (λ w. inr (w .left)) (c .before .loop-test .came)) (c .count-records .ensures)
+
+pub branch-rules-spec : {M : Type 1} → statement M
+branch-rules-spec =
+    tie.close
+    (tie.spec
+    Inv-loop
+    μ-loop
+    add-label
+    shared-slice-read-label
+    loop-holds
+    branch-at-requires
+    branch-rule-requires
+    add-next-rule
+    body-length-requires
+    add-next-rule-2
+    next-rule-requires
+    loop-less
+    loop-again
+    count-records-requires
+    same-length
+    same-length-2
+    returns)

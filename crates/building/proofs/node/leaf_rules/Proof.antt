@@ -1,0 +1,199 @@
+-- `node::leaf_rules` does rules of a leaf. The loop's invariant: the building stands at the present rule.
+use mathlib.Core.List.{List, _++_}
+use mathlib.Core.Logic.{inl, inr, ⊎-elim}
+use mathlib.Core.Path.{_∙_, _≡_, refl}
+use native.Mathlib.Omega.{arith}
+use borrow.Author.Tests.{leb-false, leb-true}
+use lib.ListN.{drop, length}
+use Rattle.paper.specs.Stream.{recordsOf}
+use Rattle.building.specs.Batch.{Record, recordsIn}
+use Rattle.building.specs.Standing.{Filling}
+use Rattle.building.specs.States.{more}
+use Rattle.building.proofs.LeafTurn.{LeafReady, leaf-onward, leaf-ready}
+use Rattle.building.proofs.OwnRow.{Onward}
+use Rattle.building.proofs.Present.{inside-here}
+use Rattle.building.proofs.RuleLoop.{Ran, ran-ends, ran-onward, ran-starts, searched-from}
+use Rattle.building.proofs.node.leaf_rules.Statement.{statement}
+use Rattle.building.proofs.node.leaf_rules.Tie as tie
+
+abbrev Inv-loop : tie.InvT-loop
+Inv-loop t input work₀ batch₀ at label count₀ rule₀ work batch count rule =
+    (length batch ≡ length batch₀) × (length work ≡ length work₀)
+    × ((base : List Record) → Filling input t work₀ batch₀ base → Ran input t work₀ base count rule work batch)
+
+abbrev μ-loop : tie.MeasureT-loop
+μ-loop t input work₀ batch₀ at label count₀ rule₀ work batch count rule = length (recordsOf (drop rule input))
+
+abbrev start : tie.Then1 Inv-loop μ-loop → tie.Start Inv-loop μ-loop
+start c = c .before .before .before .before .before .before .before
+
+-- what is known in a turn
+ready : (c : tie.Then1 Inv-loop μ-loop)
+    → let a = (start c) .args in
+    let l = c .before .before .loop in
+    LeafReady (a .input .now) (more (a .t) (l .count) (l .rule)) (l .work)
+ready c =
+    let b = start c in
+    let l = c .before .before .loop in
+    leaf-ready (b .args .input .now) (more (b .args .t) (l .count) (l .rule)) (l .work) (b .pre .0 .0 ++ recordsIn (l .count) (l .batch))
+    (l .inv .2 (b .pre .0 .0) (b .pre .0 .1) .standing) (c .before .loop-test .taken) (b .pre .1 .0 .1)
+
+abbrev turn : tie.After-next-rule Inv-loop μ-loop → tie.Then1 Inv-loop μ-loop
+turn c = c .before .before .before .before .before .before .before .before .before .before .before .before .before
+
+-- one more rule, whatever is in the table
+onward : (c : tie.After-next-rule Inv-loop μ-loop) (base : List Record)
+    → let t = turn c in
+    let a = (start t) .args in
+    let l = t .before .before .loop in
+    let done = c .before .before .before .before .before .before in
+    Filling (a .input .now) (a .t) (a .work .now) (a .batch .now) base
+    → Onward (a .input .now) (more (a .t) (l .count) (l .rule)) (l .work) base (done .leaf-rule .result) (c .next-rule .result)
+    (done .leaf-rule .last .1 .0) (done .leaf-rule .last .0)
+onward c base f =
+    let t = turn c in
+    let b = start t in
+    let a = b .args in
+    let l = t .before .before .loop in
+    let done = c .before .before .before .before .before .before in
+    leaf-onward (a .input .now) (more (a .t) (l .count) (l .rule)) (l .work) (l .batch) base (l .inv .2 base f .standing) (f .start)
+    (t .before .loop-test .taken) (b .pre .1 .0 .1) _ _ _ _ (done .leaf-rule .kept .1 .0)
+    (done .before .before .before .before .row-at .ensures) (done .leaf-rule .ensures) (searched-from (omega (arith, c .before .body-length .ensures)) (c .next-rule .ensures))
+
+add-label : tie.Need-add-label Inv-loop μ-loop
+add-label c =
+    let b = c .before .before .before in
+    let s = b .pre .0 .1 .standing in
+    omega (arith, inside-here (b .args .input .now) (b .args .t) (s .constants) (s .node), b .good)
+
+shared-slice-read-label : tie.Need-shared-slice-read-label Inv-loop μ-loop
+shared-slice-read-label c =
+    let b = c .before .before .before .before in
+    let s = b .pre .0 .1 .standing in
+    omega (arith, inside-here (b .args .input .now) (b .args .t) (s .constants) (s .node))
+
+loop-holds : tie.Need-loop-holds Inv-loop μ-loop
+loop-holds c =
+    let b = c .before .before .before .before in
+    let a = b .args in
+    (refl, refl, λ base f. ran-starts (a .input .now) (a .t) (a .work .now) (a .batch .now) base f (b .pre .1 .1 .1))
+
+add-flag : tie.Need-add-flag Inv-loop μ-loop
+add-flag c = omega (arith, ready c .rule, (start c) .good)
+
+shared-slice-read-flag : tie.Need-shared-slice-read-flag Inv-loop μ-loop
+shared-slice-read-flag c = omega (arith, ready (c .before) .rule)
+
+cast-flag : tie.Need-cast-flag Inv-loop μ-loop
+cast-flag c = omega (arith, ready (c .before) .flag)
+
+add-row-at : tie.Need-add-row-at Inv-loop μ-loop
+add-row-at c = omega (arith, ready (c .before) .rule, (start (c .before)) .good)
+
+shared-slice-read-row-at : tie.Need-shared-slice-read-row-at Inv-loop μ-loop
+shared-slice-read-row-at c = omega (arith, ready (c .before .before) .rule)
+
+cast-row-at : tie.Need-cast-row-at Inv-loop μ-loop
+cast-row-at c = omega (arith, ready (c .before .before) .state)
+
+row-at-requires : tie.Need-row-at-requires Inv-loop μ-loop
+row-at-requires c κs = omega (arith, ready (c .before .before))
+
+cast-leaf-rule : tie.Need-cast-leaf-rule Inv-loop μ-loop
+cast-leaf-rule c = omega (arith, ready (c .before .before .before .before .before .before) .node)
+
+leaf-rule-requires : tie.Need-leaf-rule-requires Inv-loop μ-loop
+leaf-rule-requires c κs =
+    let row = c .before .before .before in
+    let t = row .before .before .before in
+    let b = start t in
+    let l = t .before .before .loop in
+    omega (
+      arith,
+      ready t,
+      row .row-at .ensures,
+      b .pre .1 .1 .0,
+      l .inv .0,
+      leb-true (l .count) 324 (t .if1 .taken),
+      b .pre .0 .1 .few,
+      b .pre .0 .1 .standing .constants .limit,
+    )
+
+add-next-rule : tie.Need-add-next-rule Inv-loop μ-loop
+add-next-rule c =
+    let t = c .before .before .before .before .before .before .before .before .before .before .before in
+    omega (arith, t .before .loop-test .taken, (start t) .good)
+
+body-length-requires : tie.Need-body-length-requires Inv-loop μ-loop
+body-length-requires c κs = tt
+
+add-next-rule-2 : tie.Need-add-next-rule-2 Inv-loop μ-loop
+add-next-rule-2 c =
+    let t = c .before .before .before .before .before .before .before .before .before .before .before .before in
+    omega (arith, t .before .loop-test .taken, c .body-length .ensures, (start t) .good)
+
+next-rule-requires : tie.Need-next-rule-requires Inv-loop μ-loop
+next-rule-requires c κs = tt
+
+loop-less : tie.Need-loop-less Inv-loop μ-loop
+loop-less c = let b = start (turn c) in onward c (b .pre .0 .0) (b .pre .0 .1) .fewer
+
+loop-again : tie.Need-loop-again Inv-loop μ-loop
+loop-again c =
+    let t = turn c in
+    let b = start t in
+    let a = b .args in
+    let l = t .before .before .loop in
+    let done = c .before .before .before .before .before .before in (
+      done .leaf-rule .kept .0 ∙ l .inv .0,
+      done .leaf-rule .kept .1 .0 ∙ l .inv .1,
+      λ base f.
+          ran-onward (a .input .now) (a .t) (a .work .now) (a .batch .now) base f (b .pre .1 .1 .1) (l .inv .2 base f)
+          (leb-true (l .count) 324 (t .if1 .taken)) (onward c base f),
+    )
+
+count-records-requires : tie.Need-count-records-requires Inv-loop μ-loop
+count-records-requires c κs = omega (arith, c .before .before .before .before .before .before .pre .0 .1 .few)
+
+same-length : tie.Need-same-length Inv-loop μ-loop
+same-length c = c .before .before .loop .inv .1
+
+same-length-2 : tie.Need-same-length-2 Inv-loop μ-loop
+same-length-2 c = c .before .before .loop .inv .0
+
+returns : tie.Need-returns Inv-loop μ-loop
+returns c base f =
+    let l = c .before .before .loop in
+    let b = c .before .before .before .before .before .before .before in
+    let a = b .args in
+    ran-ends (a .input .now) (a .t) (a .work .now) (a .batch .now) base f (b .pre .1 .1 .1) (l .inv .2 base f) (b .pre .1 .0 .0)
+    (⊎-elim (λ w. inl (leb-false (l .count) 324 (w .1 .left))) (λ w. inr (w .left)) (c .before .loop-test .came)) (c .count-records .ensures)
+
+pub leaf-rules-spec : {M : Type 1} → statement M
+leaf-rules-spec =
+    tie.close
+    (tie.spec
+    Inv-loop
+    μ-loop
+    add-label
+    shared-slice-read-label
+    loop-holds
+    add-flag
+    shared-slice-read-flag
+    cast-flag
+    add-row-at
+    shared-slice-read-row-at
+    cast-row-at
+    row-at-requires
+    cast-leaf-rule
+    leaf-rule-requires
+    add-next-rule
+    body-length-requires
+    add-next-rule-2
+    next-rule-requires
+    loop-less
+    loop-again
+    count-records-requires
+    same-length
+    same-length-2
+    returns)

@@ -1,0 +1,134 @@
+// A batch holds the records that a turn makes, five numbers a record, before they go into the table.
+// A set is a number: 0 is empty, 1 is unit, i + 2 is record i. The table has `used` records, at most 60,000, and the batch k more, at
+// most 648, which are numbered on: so the number of a record fits its field.
+ghost use mathlib.Core.List.{[], _∷_, _++_};
+ghost use mathlib.Core.Path.{_≡_};
+ghost use Prim.Native.Nat.{_+_, _*_, _≤_, _<_};
+ghost use lib.ListN.{length};
+ghost use Rattle.paper.specs.Building.{newRecord, singleRecord, productRecord, unionRecord};
+ghost use Rattle.building.specs.Batch.{recordsIn, setIn, Makes};
+use paper::Record;
+
+// How many records stand in the batch, and the set that was made.
+pub(crate) struct Made {
+    pub(crate) count: usize,
+    pub(crate) set: u64,
+}
+
+// The record `new`, put behind the first k of the batch.
+fn put(batch: &mut [u16], k: usize, new: Record)
+    requires { ⌜ 5 * k + 5 ≤ length (now batch) ⌝ }
+    ensures { λ r. ⌜ recordsIn (k + 1) (now (batch .exit)) ≡ recordsIn k (now (batch .entry)) ++ (new ∷ []) ⌝ }
+{
+    let at = 5 * k;
+    batch[at] = new.kind;
+    batch[at + 1] = new.node;
+    batch[at + 2] = new.left;
+    batch[at + 3] = new.right;
+    batch[at + 4] = new.flag;
+}
+
+// The record `new` as one more, and its set.
+fn new_record(batch: &mut [u16], k: usize, used: usize, new: Record) -> Made
+    requires { ⌜ (5 * k + 5 ≤ length (now batch)) × (used + k ≤ 60648) ⌝ }
+    ensures { λ r. ⌜ Makes (newRecord new) 1 used k (now (batch .entry)) r (now (batch .exit)) ⌝ }
+{
+    put(&mut *batch, k, new);
+    Made {
+        count: k + 1,
+        set: (used + k) as u64 + 2,
+    }
+}
+
+// The node at each place of the flag; unit if it has none.
+pub(crate) fn single(batch: &mut [u16], k: usize, used: usize, node: u16, flag: usize) -> Made
+    requires { ⌜ (5 * k + 5 ≤ length (now batch)) × (used + k ≤ 60648) ⌝ }
+    requires { ⌜ flag < 16 ⌝ }
+    ensures { λ r. ⌜ Makes (singleRecord node flag) 1 used k (now (batch .entry)) r (now (batch .exit)) ⌝ }
+{
+    if flag == 0 {
+        return Made { count: k, set: 1 };
+    }
+    let new = Record {
+        kind: 1,
+        node: node,
+        left: 0,
+        right: 0,
+        flag: flag as u16,
+    };
+    new_record(&mut *batch, k, used, new)
+}
+
+// Each row of the left set with each of the right: with unit the other factor, with empty empty.
+pub(crate) fn product(
+    batch: &mut [u16],
+    k: usize,
+    used: usize,
+    node: u16,
+    flag: usize,
+    left: u64,
+    right: u64,
+) -> Made
+    requires { ⌜ (5 * k + 5 ≤ length (now batch)) × (used + k ≤ 60648) ⌝ }
+    requires { ⌜ flag < 16 ⌝ }
+    requires { ⌜ (left ≤ used + k + 1) × (right ≤ used + k + 1) ⌝ }
+    ensures { λ r. ⌜ Makes (productRecord node flag (setIn left) (setIn right)) 1 used k (now (batch .entry)) r (now (batch .exit)) ⌝ }
+{
+    if left == 0 || right == 1 {
+        return Made {
+            count: k,
+            set: left,
+        };
+    }
+    if left == 1 || right == 0 {
+        return Made {
+            count: k,
+            set: right,
+        };
+    }
+    let new = Record {
+        kind: 3,
+        node: node,
+        left: (left - 2) as u16,
+        right: (right - 2) as u16,
+        flag: flag as u16,
+    };
+    new_record(&mut *batch, k, used, new)
+}
+
+// The rows of the left set and then those of the right: with empty the other set. Unit meets only empty; else it is the left set.
+pub(crate) fn union(
+    batch: &mut [u16],
+    k: usize,
+    used: usize,
+    node: u16,
+    flag: usize,
+    left: u64,
+    right: u64,
+) -> Made
+    requires { ⌜ (5 * k + 5 ≤ length (now batch)) × (used + k ≤ 60648) ⌝ }
+    requires { ⌜ flag < 16 ⌝ }
+    requires { ⌜ (left ≤ used + k + 1) × (right ≤ used + k + 1) ⌝ }
+    ensures { λ r. ⌜ Makes (unionRecord node flag (setIn left) (setIn right)) 1 used k (now (batch .entry)) r (now (batch .exit)) ⌝ }
+{
+    if left == 0 {
+        return Made {
+            count: k,
+            set: right,
+        };
+    }
+    if left == 1 || right < 2 {
+        return Made {
+            count: k,
+            set: left,
+        };
+    }
+    let new = Record {
+        kind: 2,
+        node: node,
+        left: (left - 2) as u16,
+        right: (right - 2) as u16,
+        flag: flag as u16,
+    };
+    new_record(&mut *batch, k, used, new)
+}

@@ -1,0 +1,75 @@
+// The end of the building: the root's slots of all places.
+ghost use Prim.Native.Nat.{_+_, _≤_, _<_};
+ghost use lib.ListN.{length};
+ghost use Rattle.building.specs.Roots.{UnitedTo, UnitesNext};
+ghost use Rattle.building.specs.Standing.{IsStanding, IsFilling, Fills};
+use crate::batch::Made;
+use crate::batch::union;
+use crate::frame::flags;
+use crate::frame::row_at;
+use crate::slot::SETS;
+use crate::state::State;
+use crate::state::count_records;
+use stream::is_accepting;
+
+// One more state: if it is accepting, its slot of all places is united on the right of those before.
+fn unite_root(
+    t: State,
+    input: &[u8],
+    work: &[u64],
+    batch: &mut [u16],
+    made: Made,
+    state: usize,
+) -> Made
+    requires { ⌜ IsStanding (now input) t (now work) × (t .count ≤ 324) ⌝ }
+    requires { ⌜ (state < t .states) × (3240 ≤ length (now batch)) ⌝ }
+    requires { ⌜ (t .count ≤ made .count) × (made .count ≤ t .count + state) × (made .set ≤ t .from + made .count + 1) ⌝ }
+    ensures { λ r. ⌜ UnitesNext (now (input .entry)) t (now (work .entry)) state made (now (batch .entry)) r (now (batch .exit)) ⌝ }
+{
+    if !is_accepting(input, t.rules, state as u8) {
+        return made;
+    }
+    let places = flags(t.arity) - 1;
+    let at = row_at(t.arity, t.states, t.top, state) + places;
+    union(
+        &mut *batch,
+        made.count,
+        t.from,
+        t.node as u16,
+        places,
+        made.set,
+        work[at] % SETS,
+    )
+}
+
+// All states, ascending.
+fn unite_roots(t: State, input: &[u8], work: &[u64], batch: &mut [u16]) -> Made
+    requires { ⌜ IsStanding (now input) t (now work) ⌝ }
+    requires { ⌜ (3240 ≤ length (now batch)) × (t .count ≤ 324) ⌝ }
+    ensures { λ r. ⌜ UnitedTo (now (input .entry)) t (now (work .entry)) (t .states) (now (batch .entry)) r (now (batch .exit)) ⌝ }
+{
+    let mut made = Made {
+        count: t.count,
+        set: 0,
+    };
+    let mut state = 0;
+    while state < t.states {
+        made = unite_root(t, input, work, &mut *batch, made, state);
+        state += 1;
+    }
+    made
+}
+
+// The end of the building.
+pub(crate) fn roots(t: State, input: &[u8], work: &[u64], batch: &mut [u16]) -> State
+    requires { ⌜ IsFilling (now input) t (now work) (now batch) ⌝ }
+    requires { ⌜ (length (now input) ≤ t .rule) × (t .nodes ≤ t .node + 1) ⌝ }
+    requires { ⌜ (3240 ≤ length (now batch)) × (t .count ≤ 324) ⌝ }
+    ensures { λ r. ⌜ Fills (now (input .entry)) t (now (work .entry)) (now (batch .entry)) r (now (work .entry)) (now (batch .exit)) ⌝ }
+{
+    let made = unite_roots(t, input, work, &mut *batch);
+    let mut last = count_records(t, made.count, t.rule);
+    last.going = false;
+    last.set = made.set;
+    last
+}

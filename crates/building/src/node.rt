@@ -1,0 +1,138 @@
+// The turns of the building at one node: its rules, and the step to the next node.
+ghost use mathlib.Core.Path.{_≡_};
+ghost use mathlib.Core.List.{List};
+ghost use Prim.Native.Nat.{ℕ, _+_, _≤_, _<_};
+ghost use lib.ListN.{length, getD};
+ghost use Rattle.building.specs.Branches.{BranchReady, branchOf};
+ghost use Rattle.building.specs.Coming.{Comes, HasCome, Joins};
+ghost use Rattle.building.specs.Standing.{IsStanding, IsFilling, Fills};
+use crate::frame::clear;
+use crate::frame::copy_down;
+use crate::frame::flags;
+use crate::frame::frame_at;
+use crate::frame::frame_width;
+use crate::frame::row_at;
+use crate::rule::Branch;
+use crate::rule::branch_rule;
+use crate::rule::leaf_rule;
+use crate::state::State;
+use crate::state::count_records;
+use stream::body_length;
+use stream::next_rule;
+
+// The rules of a leaf from the next one on, as long as there is room in the batch for the records of one more.
+pub(crate) fn leaf_rules(t: State, input: &[u8], work: &mut [u64], batch: &mut [u16]) -> State
+    requires { ⌜ IsFilling (now input) t (now work) (now batch) ⌝ }
+    requires { ⌜ (t .rule < length (now input)) × (getD (now input) (t .at) 0 ≡ 1) ⌝ }
+    requires { ⌜ (3240 ≤ length (now batch)) × (t .count ≤ 324) ⌝ }
+    ensures { λ r. ⌜ Fills (now (input .entry)) t (now (work .entry)) (now (batch .entry)) r (now (work .exit)) (now (batch .exit)) ⌝ }
+{
+    let at = t.at;
+    let label = input[at + 1];
+    let mut count = t.count;
+    let mut rule = t.rule;
+    while rule < input.len() && count <= 324 {
+        let flag = input[rule + 2] as usize;
+        let to = row_at(t.arity, t.states, t.top, input[rule + 3] as usize);
+        count = leaf_rule(
+            &mut *batch,
+            &mut *work,
+            count,
+            t.from,
+            t.node as u16,
+            flag,
+            to,
+        );
+        rule = next_rule(input, rule + 1 + body_length(17), 17, label);
+    }
+    count_records(t, count, rule)
+}
+
+// A rule of a branch, and its rows: of the left state in the older child's frame, the second below the node's, of the right one in the
+// last child's, the first below, and of its own in the node's frame.
+fn branch_at(t: State, input: &[u8], rule: usize) -> Branch
+    requires { ⌜ BranchReady (now input) t rule ⌝ }
+    ensures { λ r. ⌜ r ≡ branchOf (now (input .entry)) t rule ⌝ }
+{
+    let left = row_at(t.arity, t.states, t.top - 2, input[rule + 3] as usize);
+    let right = row_at(t.arity, t.states, t.top - 1, input[rule + 4] as usize);
+    let to = row_at(t.arity, t.states, t.top, input[rule + 5] as usize);
+    Branch {
+        used: t.from,
+        node: t.node,
+        size: flags(t.arity),
+        own: input[rule + 2] as usize,
+        left: left,
+        right: right,
+        to: to,
+    }
+}
+
+// The rules of a branch, likewise.
+pub(crate) fn branch_rules(t: State, input: &[u8], work: &mut [u64], batch: &mut [u16]) -> State
+    requires { ⌜ IsFilling (now input) t (now work) (now batch) ⌝ }
+    requires { ⌜ (t .rule < length (now input)) × (getD (now input) (t .at) 0 ≡ 1 → ⊥) ⌝ }
+    requires { ⌜ (3240 ≤ length (now batch)) × (t .count ≤ 324) ⌝ }
+    ensures { λ r. ⌜ Fills (now (input .entry)) t (now (work .entry)) (now (batch .entry)) r (now (work .exit)) (now (batch .exit)) ⌝ }
+{
+    let at = t.at;
+    let label = input[at + 1];
+    let mut count = t.count;
+    let mut rule = t.rule;
+    while rule < input.len() && count <= 324 {
+        let here = branch_at(t, input, rule);
+        count = branch_rule(&mut *batch, &mut *work, count, here);
+        rule = next_rule(input, rule + 1 + body_length(18), 18, label);
+    }
+    count_records(t, count, rule)
+}
+
+// The frame of the present node becomes that of a subtree, a branch's in the place of the frames that it joins. How many frames there
+// are then.
+fn join_frames(t: State, input: &[u8], work: &mut [u64]) -> usize
+    requires { ⌜ IsStanding (now input) t (now work) ⌝ }
+    ensures { λ r. ⌜ Joins (now (input .entry)) t (now (work .entry)) r (now (work .exit)) ⌝ }
+{
+    let at = t.at;
+    if input[at] == 1 {
+        return t.top + 1;
+    }
+    let from = frame_at(t.arity, t.states, t.top);
+    let to = frame_at(t.arity, t.states, t.top - 2);
+    copy_down(&mut *work, from, to, frame_width(t.arity, t.states));
+    t.top - 1
+}
+
+// The start of a node: its frame is cleared, and its first rule looked for, whose kind is 16 more than the node's.
+pub(crate) fn start_node(
+    t: State,
+    node: usize,
+    at: usize,
+    top: usize,
+    input: &[u8],
+    work: &mut [u64],
+) -> State
+    requires { ⌜ Comes (now input) t node at top (now work) ⌝ }
+    ensures { λ r. ⌜ HasCome (now (input .entry)) t node at top (now (work .entry)) r (now (work .exit)) ⌝ }
+{
+    let from = frame_at(t.arity, t.states, top);
+    clear(&mut *work, from, frame_width(t.arity, t.states));
+    let mut next = t;
+    next.node = node;
+    next.at = at;
+    next.top = top;
+    next.rule = next_rule(input, t.rules, input[at] + 16, input[at + 1]);
+    next
+}
+
+// The end of the present node and the start of the next.
+pub(crate) fn next_node(t: State, input: &[u8], work: &mut [u64]) -> State
+    requires { ⌜ IsStanding (now input) t (now work) ⌝ }
+    requires { ⌜ (length (now input) ≤ t .rule) × (t .node + 1 < t .nodes) × (t .count ≤ 324) ⌝ }
+    ensures { λ r. ⌜ ((batch : List ℕ) → Fills (now (input .entry)) t (now (work .entry)) batch r (now (work .exit)) batch) ⌝ }
+{
+    let at = t.at;
+    let next = at + 1 + body_length(input[at]);
+    let top = join_frames(t, input, &mut *work);
+    start_node(t, t.node + 1, next, top, input, &mut *work)
+}

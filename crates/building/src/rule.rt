@@ -1,0 +1,151 @@
+// One rule at one node: the records that it makes go into a batch, the sets into the slots of the rule's state. The slots of a state
+// are a row of numbers in work, one for each flag.
+ghost use mathlib.Core.Path.{_≡_};
+ghost use Prim.Native.Nat.{_+_, _*_, _≤_, _<_};
+ghost use lib.Bits.{bitAnd};
+ghost use lib.ListN.{length};
+ghost use Rattle.paper.specs.Building.{triple, recordSets};
+ghost use Rattle.building.specs.Batch.{setIn, Makes};
+ghost use Rattle.building.specs.Rules.{splitAt, flagsAt, Unites, Leaves, Branches, Room, Runs};
+ghost use Rattle.building.specs.Slots.{slotAt};
+use crate::batch::Made;
+use crate::batch::product;
+use crate::batch::single;
+use crate::batch::union;
+use crate::slot::SETS;
+use crate::slot::put_set;
+
+// A branch rule at a node: the records in the table, the node, how many flags there are, the rule's own flag, and where in work the
+// rows of its left state, its right state and the state that it names start.
+pub(crate) struct Branch {
+    pub(crate) used: usize,
+    pub(crate) node: usize,
+    pub(crate) size: usize,
+    pub(crate) own: usize,
+    pub(crate) left: usize,
+    pub(crate) right: usize,
+    pub(crate) to: usize,
+}
+
+// A leaf rule that matches: the single of its flag, put into its slot.
+pub(crate) fn leaf_rule(
+    batch: &mut [u16],
+    work: &mut [u64],
+    k: usize,
+    used: usize,
+    node: u16,
+    flag: usize,
+    to: usize,
+) -> usize
+    requires { ⌜ (5 * k + 5 ≤ length (now batch)) × (used + k ≤ 60648) ⌝ }
+    requires { ⌜ flag < 16 ⌝ }
+    requires { ⌜ to + flag < length (now work) ⌝ }
+    ensures { λ r. ⌜ Leaves node flag to used k (now (batch .entry)) (now (work .entry)) r (now (batch .exit)) (now (work .exit)) ⌝ }
+{
+    let made = single(&mut *batch, k, used, node, flag);
+    put_set(&mut *work, to, flag, made.set);
+    made.count
+}
+
+// The single of the own flag times left, times right. The states of the split do not matter here.
+fn triple(
+    batch: &mut [u16],
+    k: usize,
+    rule: Branch,
+    b1: usize,
+    b2: usize,
+    left: u64,
+    right: u64,
+) -> Made
+    requires { ⌜ (5 * k + 15 ≤ length (now batch)) × (rule .used + k ≤ 60646) ⌝ }
+    requires { ⌜ (rule .own + b1 + b2 < 16) × (rule .node < 65536) ⌝ }
+    requires { ⌜ (left ≤ rule .used + k + 1) × (right ≤ rule .used + k + 1) ⌝ }
+    ensures { λ r. ⌜ Makes (triple recordSets (rule .node) (splitAt (rule .own) 0 0 0 (b1, b2)) (setIn left) (setIn right)) 3 (rule .used) k
+        (now (batch .entry)) r (now (batch .exit)) ⌝ }
+{
+    let used = rule.used;
+    let node = rule.node as u16;
+    let flag = rule.own + b1;
+    let alone = single(&mut *batch, k, used, node, rule.own);
+    let inner = product(&mut *batch, alone.count, used, node, flag, alone.set, left);
+    let flag = flag + b2;
+    product(&mut *batch, inner.count, used, node, flag, inner.set, right)
+}
+
+// A split, united on the right with the slot of its three flags together. Its children's sets are left and right.
+fn split(
+    batch: &mut [u16],
+    work: &mut [u64],
+    k: usize,
+    rule: Branch,
+    b1: usize,
+    b2: usize,
+    left: u64,
+    right: u64,
+) -> usize
+    requires { ⌜ (5 * k + 20 ≤ length (now batch)) × (rule .used + k ≤ 60644) ⌝ }
+    requires { ⌜ (rule .own + b1 + b2 < 16) × (rule .node < 65536) ⌝ }
+    requires { ⌜ (left ≤ rule .used + k + 1) × (right ≤ rule .used + k + 1) ⌝ }
+    requires { ⌜ (rule .to + (rule .own + b1 + b2) < length (now work))
+        × (slotAt (now work) (rule .to + (rule .own + b1 + b2)) ≤ rule .used + k + 1) ⌝ }
+    ensures { λ r. ⌜ Unites rule b1 b2 left right k (now (batch .entry)) (now (work .entry)) r (now (batch .exit)) (now (work .exit)) ⌝ }
+{
+    let used = rule.used;
+    let node = rule.node as u16;
+    let flag = rule.own + b1 + b2;
+    let to = rule.to;
+    let old = work[to + flag] % SETS;
+    let made = triple(&mut *batch, k, rule, b1, b2, left, right);
+    let whole = union(&mut *batch, made.count, used, node, flag, old, made.set);
+    put_set(&mut *work, to, flag, whole.set);
+    whole.count
+}
+
+// The splits of a branch rule whose left flag is b1, unless the left child's slot is empty: for each b2 ascending that shares no bit
+// and at which the right child's slot is not empty. Such a b2 is marked: the marks of the right row are taken one by one, the first first.
+fn beside(batch: &mut [u16], work: &mut [u64], k: usize, rule: Branch, b1: usize) -> usize
+    requires { ⌜ Room rule k (now batch) (now work) ⌝ }
+    requires { ⌜ (b1 < rule .size) × (bitAnd (rule .own) b1 ≡ 0) ⌝ }
+    requires { ⌜ k + 4 * length (flagsAt (rule .own) (rule .size) b1) ≤ 648 ⌝ }
+    ensures { λ r. ⌜ Runs (flagsAt (rule .own) (rule .size) b1) rule k
+        (now (batch .entry)) (now (work .entry)) r (now (batch .exit)) (now (work .exit)) ⌝ }
+{
+    let left = rule.left;
+    let right = rule.right;
+    let here = work[left + b1] % SETS;
+    if here == 0 {
+        return k;
+    }
+    let mut count = k;
+    let mut marks = work[right] / SETS;
+    while marks != 0 {
+        let b2 = u64::trailing_zeros(marks) as usize;
+        if ((rule.own + b1) & b2) == 0 {
+            let there = work[right + b2] % SETS;
+            if there != 0 {
+                count = split(&mut *batch, &mut *work, count, rule, b1, b2, here, there);
+            }
+        }
+        marks = marks & (marks - 1);
+    }
+    count
+}
+
+// A branch rule that matches: its splits, for each b1 ascending that shares no bit with the own flag and then for each such b2. The
+// marks of the left row are taken likewise.
+pub(crate) fn branch_rule(batch: &mut [u16], work: &mut [u64], k: usize, rule: Branch) -> usize
+    requires { ⌜ Room rule k (now batch) (now work) × (k ≤ 324) ⌝ }
+    ensures { λ r. ⌜ Branches rule k (now (batch .entry)) (now (work .entry)) r (now (batch .exit)) (now (work .exit)) ⌝ }
+{
+    let left = rule.left;
+    let mut count = k;
+    let mut marks = work[left] / SETS;
+    while marks != 0 {
+        let b1 = u64::trailing_zeros(marks) as usize;
+        if (rule.own & b1) == 0 {
+            count = beside(&mut *batch, &mut *work, count, rule, b1);
+        }
+        marks = marks & (marks - 1);
+    }
+    count
+}

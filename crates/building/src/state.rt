@@ -1,0 +1,43 @@
+// Where the building stands between two turns.
+ghost use mathlib.Core.Path.{_≡_};
+ghost use Prim.Native.Nat.{_≤_};
+ghost use Rattle.building.specs.States.{counted};
+
+// `from` is where the batch goes in the table, `count` how many records it has. `at` is where the record of the present node stands,
+// `top` how many frames are below its own, `rule` where its next matching rule stands: the end of the input where none is left. `set`
+// is the set that was made, once the building has stopped, `over` that it stopped at the limit. The others stay: the nodes, where the
+// rules begin, the query's arity and states, the records that fit, the work asked for.
+pub(crate) struct State {
+    pub(crate) from: usize,
+    pub(crate) count: usize,
+    pub(crate) at: usize,
+    pub(crate) node: usize,
+    pub(crate) top: usize,
+    pub(crate) rule: usize,
+    pub(crate) set: u64,
+    pub(crate) nodes: usize,
+    pub(crate) rules: usize,
+    pub(crate) arity: usize,
+    pub(crate) states: usize,
+    pub(crate) limit: usize,
+    pub(crate) asked: usize,
+    pub(crate) going: bool,
+    pub(crate) over: bool,
+}
+
+// With so many records in the batch, and on to the next rule, unless the records pass the limit.
+pub(crate) fn count_records(t: State, count: usize, rule: usize) -> State
+    requires { ⌜ t .from ≤ t .limit ⌝ }
+    ensures { λ r. ⌜ r ≡ counted t count rule ⌝ }
+{
+    let mut next = t;
+    if t.limit - t.from < count {
+        next.count = 0;
+        next.going = false;
+        next.over = true;
+        return next;
+    }
+    next.count = count;
+    next.rule = rule;
+    next
+}

@@ -1,0 +1,42 @@
+// What is done between two times that the batch goes into the table.
+ghost use Prim.Native.Nat.{_≤_};
+ghost use lib.ListN.{length};
+ghost use Rattle.building.specs.Standing.{IsStanding, IsFilling, Turned, Fills};
+use crate::ending::roots;
+use crate::node::branch_rules;
+use crate::node::leaf_rules;
+use crate::node::next_node;
+use crate::state::State;
+
+// Rules of the present node, a leaf or a branch, or the next node where no rule is left, or the end where no node is left.
+fn turn(t: State, input: &[u8], work: &mut [u64], batch: &mut [u16]) -> State
+    requires { ⌜ IsFilling (now input) t (now work) (now batch) ⌝ }
+    requires { ⌜ (3240 ≤ length (now batch)) × (t .count ≤ 324) ⌝ }
+    ensures { λ r. ⌜ Fills (now (input .entry)) t (now (work .entry)) (now (batch .entry)) r (now (work .exit)) (now (batch .exit)) ⌝ }
+{
+    let at = t.at;
+    if t.rule < input.len() {
+        if input[at] == 1 {
+            return leaf_rules(t, input, &mut *work, &mut *batch);
+        }
+        return branch_rules(t, input, &mut *work, &mut *batch);
+    }
+    if t.node + 1 < t.nodes {
+        return next_node(t, input, &mut *work);
+    }
+    roots(t, input, &*work, &mut *batch)
+}
+
+// Turns with an empty batch, whose records are in the table, as long as it has room for the records of one more rule.
+pub(crate) fn step(t: State, input: &[u8], work: &mut [u64], batch: &mut [u16]) -> State
+    requires { ⌜ IsStanding (now input) t (now work) × (3240 ≤ length (now batch)) ⌝ }
+    ensures { λ r. ⌜ Turned (now (input .entry)) t (now (work .entry)) r (now (work .exit)) (now (batch .exit)) ⌝ }
+{
+    let mut s = t;
+    s.from = t.from + t.count;
+    s.count = 0;
+    while s.going && s.count <= 324 {
+        s = turn(s, input, &mut *work, &mut *batch);
+    }
+    s
+}

@@ -1,0 +1,102 @@
+// The beginning and the end of a build.
+ghost use mathlib.Core.Path.{_≡_};
+ghost use Prim.Native.Nat.{min};
+ghost use Rattle.paper.specs.Refusals.{answer};
+ghost use Rattle.stream.specs.Reading.{treeReply, queryReply};
+ghost use Rattle.building.specs.Whole.{Begins, Ended, Finishes};
+use crate::frame::clear;
+use crate::frame::flags;
+use crate::frame::frame_width;
+use crate::node::start_node;
+use crate::state::State;
+use paper::Built;
+use paper::Head;
+use paper::Refusal;
+use stream::QueryFacts;
+use stream::QueryRead;
+use stream::TreeFacts;
+use stream::TreeRead;
+use stream::read_query;
+use stream::read_tree;
+use table::set_of;
+
+// The building stands at its first node, or is refused with 1 to 5.
+pub(crate) enum Begun {
+    Going(State),
+    Refused(Refusal),
+}
+
+// How many records fit in a table of so many entries.
+fn record_limit(entries: usize) -> usize
+    ensures { λ r. ⌜ r ≡ min entries 60000 ⌝ }
+{
+    if entries < 60000 { entries } else { 60000 }
+}
+
+// The first node of a tree and a query that are read, if the work is as long as they ask. The table has so many entries.
+fn start(
+    input: &[u8],
+    work: &mut [u64],
+    entries: usize,
+    tree: TreeFacts,
+    query: QueryFacts,
+) -> Begun
+    requires { ⌜ answer tree ≡ treeReply (now input) ⌝ }
+    requires { ⌜ answer query ≡ queryReply (now input) (tree .end) ⌝ }
+    ensures { λ r. ⌜ Begins (now (input .entry)) (now (work .entry)) entries r (now (work .exit)) ⌝ }
+{
+    let asked = (1 + tree.most) * frame_width(query.arity, query.states);
+    if work.len() < asked {
+        return Begun::Refused(Refusal::ShortWork);
+    }
+    let t = State {
+        from: 0,
+        count: 0,
+        at: 0,
+        node: 0,
+        top: 0,
+        rule: 0,
+        set: 0,
+        nodes: tree.nodes,
+        rules: query.rules,
+        arity: query.arity,
+        states: query.states,
+        limit: record_limit(entries),
+        asked: asked,
+        going: true,
+        over: false,
+    };
+    Begun::Going(start_node(t, 0, 0, 0, input, &mut *work))
+}
+
+pub(crate) fn begin(input: &[u8], work: &mut [u64], entries: usize) -> Begun
+    ensures { λ r. ⌜ Begins (now (input .entry)) (now (work .entry)) entries r (now (work .exit)) ⌝ }
+{
+    match read_tree(input) {
+        TreeRead::Refused(why) => Begun::Refused(why),
+        TreeRead::Tree(tree) => match read_query(input, tree.end) {
+            QueryRead::Refused(why) => Begun::Refused(why),
+            QueryRead::Query(query) => start(input, &mut *work, entries, tree, query),
+        },
+    }
+}
+
+// The answer of a build that has stopped, or its refusal with 6. The work is cleared.
+pub(crate) fn finish(t: State, work: &mut [u64]) -> Built
+    requires { ⌜ Ended t (now work) ⌝ }
+    ensures { λ r. ⌜ Finishes t (now (work .entry)) r (now (work .exit)) ⌝ }
+{
+    clear(&mut *work, 0, t.asked);
+    if t.over {
+        return Built::Refused(Refusal::ShortTable);
+    }
+    let places = flags(t.arity) - 1;
+    let set = set_of(t.set as u16);
+    Built::Set(Head {
+        nodes: t.nodes as u16,
+        arity: t.arity as u16,
+        open_places: places as u16,
+        used: (t.from + t.count) as u16,
+        set: set,
+    })
+}

@@ -1,0 +1,38 @@
+-- The contracts of the functions for C leave no freedom: two results that one allows for one input are equal, in the number returned, in every lent buffer
+-- and in the out parameter, refusals too.
+use mathlib.Core.List.{List}
+use mathlib.Core.Path.{_∙_, _≡_, sym}
+use Prim.Native.Nat.{ℕ}
+use Rattle.paper.specs.declared.Record.{Record}
+use Rattle.paper.specs.Row.{Row}
+use Rattle.tarnsatchel.specs.Told.{TellsBuild, TellsCount, TellsFix, TellsMember, TellsProject, TellsRow}
+
+module _ (work : List ℕ) (r s : ℕ) (work₁ work₂ : List ℕ) where
+  pub one-build : (input : List ℕ) (table table₁ table₂ : List Record) (head head₁ head₂ : List ℕ)
+      → TellsBuild input work table head r work₁ table₁ head₁ → TellsBuild input work table head s work₂ table₂ head₂
+      → (r ≡ s) × (work₁ ≡ work₂) × (table₁ ≡ table₂) × (head₁ ≡ head₂)
+  one-build input table table₁ table₂ head head₁ head₂ a b =
+      (a .number ∙ sym (b .number), a .worked ∙ sym (b .worked), a .written ∙ sym (b .written), a .shown ∙ sym (b .shown))
+
+  module _ (head : List ℕ) (table : List Record) where
+    pub one-count : (rows rows₁ rows₂ : ℕ) → TellsCount head table work rows r work₁ rows₁ → TellsCount head table work rows s work₂ rows₂
+        → (r ≡ s) × (work₁ ≡ work₂) × (rows₁ ≡ rows₂)
+    one-count rows rows₁ rows₂ a b = (a .number ∙ sym (b .number), a .worked ∙ sym (b .worked), a .shown ∙ sym (b .shown))
+
+    pub one-row : (n : ℕ) (row row₁ row₂ : List ℕ) → TellsRow head table work n row r work₁ row₁ → TellsRow head table work n row s work₂ row₂
+        → (r ≡ s) × (work₁ ≡ work₂) × (row₁ ≡ row₂)
+    one-row n row row₁ row₂ a b = (a .number ∙ sym (b .number), a .worked ∙ sym (b .worked), a .written ∙ sym (b .written))
+
+    pub one-member : (row : Row) (listed listed₁ listed₂ : ℕ) → TellsMember head table work row listed r work₁ listed₁
+        → TellsMember head table work row listed s work₂ listed₂ → (r ≡ s) × (work₁ ≡ work₂) × (listed₁ ≡ listed₂)
+    one-member row listed listed₁ listed₂ a b = (a .number ∙ sym (b .number), a .worked ∙ sym (b .worked), a .shown ∙ sym (b .shown))
+
+    pub one-project : (place : ℕ) (marks marks₁ marks₂ : List ℕ) → TellsProject head table work place marks r work₁ marks₁
+        → TellsProject head table work place marks s work₂ marks₂ → (r ≡ s) × (work₁ ≡ work₂) × (marks₁ ≡ marks₂)
+    one-project place marks marks₁ marks₂ a b = (a .number ∙ sym (b .number), a .worked ∙ sym (b .worked), a .written ∙ sym (b .written))
+
+    pub one-fix : (place n : ℕ) (target target₁ target₂ : List Record) (fixed fixed₁ fixed₂ : List ℕ)
+        → TellsFix head table work place n target fixed r work₁ target₁ fixed₁ → TellsFix head table work place n target fixed s work₂ target₂ fixed₂
+        → (r ≡ s) × (work₁ ≡ work₂) × (target₁ ≡ target₂) × (fixed₁ ≡ fixed₂)
+    one-fix place n target target₁ target₂ fixed fixed₁ fixed₂ a b =
+        (a .number ∙ sym (b .number), a .worked ∙ sym (b .worked), a .written ∙ sym (b .written), a .shown ∙ sym (b .shown))

@@ -1,0 +1,249 @@
+// The library for C: include/tarnsatchel.h says it in C. First the exported functions, each a straight line over the function of its
+// name; then the head's six numbers read and written; then each answer as a number.
+ghost use mathlib.Core.Path.{_≡_};
+ghost use Rattle.paper.specs.Answers.{told, saysBuilt, saysCounted, saysFixed, saysMember, saysProjected, saysWritten};
+ghost use Rattle.tarnsatchel.specs.Told.{setKind, setRecord, headNumbers, setOf, headOf, code, listedNumber, Tells};
+ghost use Rattle.tarnsatchel.specs.Told.{TellsBuild, TellsCount, TellsRow, TellsMember, TellsProject, TellsFix};
+use paper::Built;
+use paper::Counted;
+use paper::Fixed;
+use paper::Head;
+use paper::Member;
+use paper::Projected;
+use paper::Record;
+use paper::Set;
+use paper::Written;
+
+// In every function: 0 is returned with an answer, else the refusal's number, and then an out parameter is as it was.
+
+// Builds the set of a stream; `head` is its head's numbers.
+#[no_mangle]
+pub extern "C" fn tarn_build(
+    input: &[u8],
+    work: &mut [u64],
+    table: &mut [Record],
+    head: &mut [u16; 6],
+) -> u8
+    ensures { λ r. ⌜ TellsBuild (now (input .entry)) (now (work .entry)) (now (table .entry)) (now (head .entry)) r
+        (now (work .exit)) (now (table .exit)) (now (head .exit)) ⌝ }
+{
+    let built = building::build(input, work, table);
+    tell_build(built, head)
+}
+
+// `rows` is how many rows are listed.
+#[no_mangle]
+pub extern "C" fn tarn_count(
+    head: &[u16; 6],
+    table: &[Record],
+    work: &mut [u64],
+    rows: &mut u64,
+) -> u8
+    ensures { λ r. ⌜ TellsCount (now (head .entry)) (now (table .entry)) (now (work .entry)) (now (rows .entry)) r
+        (now (work .exit)) (now (rows .exit)) ⌝ }
+{
+    let h = head_of(head);
+    let counted = sound::count(h, table, work);
+    tell_count(counted, rows)
+}
+
+// `row` is the row of this number.
+#[no_mangle]
+pub extern "C" fn tarn_row(
+    head: &[u16; 6],
+    table: &[Record],
+    work: &mut [u64],
+    number: u64,
+    row: &mut [u16],
+) -> u8
+    ensures { λ r. ⌜ TellsRow (now (head .entry)) (now (table .entry)) (now (work .entry)) number (now (row .entry)) r
+        (now (work .exit)) (now (row .exit)) ⌝ }
+{
+    let h = head_of(head);
+    let written = row::row(h, table, work, number, row);
+    tell_row(written)
+}
+
+// `listed` is 1 if the row is listed, else 0.
+#[no_mangle]
+pub extern "C" fn tarn_member(
+    head: &[u16; 6],
+    table: &[Record],
+    work: &mut [u64],
+    row: &[u16],
+    listed: &mut u8,
+) -> u8
+    ensures { λ r. ⌜ TellsMember (now (head .entry)) (now (table .entry)) (now (work .entry)) (now (row .entry)) (now (listed .entry)) r
+        (now (work .exit)) (now (listed .exit)) ⌝ }
+{
+    let h = head_of(head);
+    let member = member::member(h, table, work, row);
+    tell_member(member, listed)
+}
+
+// `marks` has 1 for each node that stands at the place in some row, else 0.
+#[no_mangle]
+pub extern "C" fn tarn_project(
+    head: &[u16; 6],
+    table: &[Record],
+    work: &mut [u64],
+    place: u16,
+    marks: &mut [u8],
+) -> u8
+    ensures { λ r. ⌜ TellsProject (now (head .entry)) (now (table .entry)) (now (work .entry)) place (now (marks .entry)) r
+        (now (work .exit)) (now (marks .exit)) ⌝ }
+{
+    let h = head_of(head);
+    let projected = project::project(h, table, work, place, marks);
+    tell_project(projected)
+}
+
+// Fixes the place at the node, into `target`; `fixed` is the new head's numbers.
+#[no_mangle]
+pub extern "C" fn tarn_fix(
+    head: &[u16; 6],
+    source: &[Record],
+    work: &mut [u64],
+    place: u16,
+    node: u16,
+    target: &mut [Record],
+    fixed: &mut [u16; 6],
+) -> u8
+    ensures { λ r. ⌜ TellsFix (now (head .entry)) (now (source .entry)) (now (work .entry)) place node (now (target .entry)) (now (fixed .entry)) r
+        (now (work .exit)) (now (target .exit)) (now (fixed .exit)) ⌝ }
+{
+    let h = head_of(head);
+    let answer = fix::fix(h, source, work, place, node, target);
+    tell_fix(answer, fixed)
+}
+
+// The head of six numbers.
+fn head_of(numbers: &[u16; 6]) -> Head
+    ensures { λ h. ⌜ h ≡ headOf (now (numbers .entry)) ⌝ }
+{
+    let set = set_of(numbers[4], numbers[5]);
+    Head {
+        nodes: numbers[0],
+        arity: numbers[1],
+        open_places: numbers[2],
+        used: numbers[3],
+        set,
+    }
+}
+
+// No sound set uses a record of this number.
+const NO_RECORD: u16 = 65535;
+
+// 0 empty, 1 unit, 2 the record; any other kind is no set, and every question on it is refused.
+fn set_of(kind: u16, number: u16) -> Set
+    ensures { λ s. ⌜ s ≡ setOf kind number ⌝ }
+{
+    match kind {
+        0 => Set::Empty,
+        1 => Set::Unit,
+        2 => Set::Record(number),
+        _ => Set::Record(NO_RECORD),
+    }
+}
+
+// The six numbers of a head.
+fn numbers_of(h: Head) -> [u16; 6]
+    ensures { λ numbers. ⌜ numbers ≡ headNumbers h ⌝ }
+{
+    let set = h.set;
+    let kind = set_kind(set);
+    let record = set_record(set);
+    [h.nodes, h.arity, h.open_places, h.used, kind, record]
+}
+
+// 0 empty, 1 unit, 2 a record.
+fn set_kind(set: Set) -> u16
+    ensures { λ n. ⌜ n ≡ setKind set ⌝ }
+{
+    match set {
+        Set::Empty => 0,
+        Set::Unit => 1,
+        Set::Record(_) => 2,
+    }
+}
+
+// The record's number, 0 for the others.
+fn set_record(set: Set) -> u16
+    ensures { λ n. ⌜ n ≡ setRecord set ⌝ }
+{
+    match set {
+        Set::Empty => 0,
+        Set::Unit => 0,
+        Set::Record(i) => i,
+    }
+}
+
+fn tell_build(built: Built, head: &mut [u16; 6]) -> u8
+    ensures { λ n. ⌜ Tells (told headNumbers (saysBuilt built)) (now (head .entry)) n (now (head .exit)) ⌝ }
+{
+    match built {
+        Built::Refused(r) => r.number(),
+        Built::Set(h) => {
+            *head = numbers_of(h);
+            0
+        }
+    }
+}
+
+fn tell_count(counted: Counted, rows: &mut u64) -> u8
+    ensures { λ n. ⌜ Tells (saysCounted counted) (now (rows .entry)) n (now (rows .exit)) ⌝ }
+{
+    match counted {
+        Counted::Refused(r) => r.number(),
+        Counted::Rows(n) => {
+            *rows = n;
+            0
+        }
+    }
+}
+
+fn tell_row(written: Written) -> u8
+    ensures { λ n. ⌜ n ≡ code (saysWritten written) ⌝ }
+{
+    match written {
+        Written::Refused(r) => r.number(),
+        Written::Row => 0,
+    }
+}
+
+fn tell_member(member: Member, listed: &mut u8) -> u8
+    ensures { λ n. ⌜ Tells (told listedNumber (saysMember member)) (now (listed .entry)) n (now (listed .exit)) ⌝ }
+{
+    match member {
+        Member::Refused(r) => r.number(),
+        Member::Listed => {
+            *listed = 1;
+            0
+        }
+        Member::NotListed => {
+            *listed = 0;
+            0
+        }
+    }
+}
+
+fn tell_project(projected: Projected) -> u8
+    ensures { λ n. ⌜ n ≡ code (saysProjected projected) ⌝ }
+{
+    match projected {
+        Projected::Refused(r) => r.number(),
+        Projected::Marks => 0,
+    }
+}
+
+fn tell_fix(answer: Fixed, fixed: &mut [u16; 6]) -> u8
+    ensures { λ n. ⌜ Tells (told headNumbers (saysFixed answer)) (now (fixed .entry)) n (now (fixed .exit)) ⌝ }
+{
+    match answer {
+        Fixed::Refused(r) => r.number(),
+        Fixed::Set(h) => {
+            *fixed = numbers_of(h);
+            0
+        }
+    }
+}

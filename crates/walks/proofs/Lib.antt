@@ -1,0 +1,13 @@
+pub mod Prelude
+pub mod Steps
+pub mod Locals
+pub mod Loops
+pub mod Parameters
+pub mod Calls
+pub mod Lending
+pub mod Arrays
+pub mod Entries
+pub mod States
+pub mod Values
+pub mod Asking
+pub mod Outputs
