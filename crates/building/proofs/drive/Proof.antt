@@ -1,4 +1,4 @@
--- `building::drive` meets its contract: an instance of the law of the building loop (`table`). What stands here is of plain values.
+-- `building::drive` meets its contract: an instance of the law of the building loop (`walks`). What stands here is of plain values.
 -- Assumes nothing.
 use mathlib.Core.Bool.{true, false, true≢false}
 use mathlib.Core.List.{List, [], _++_}
@@ -13,10 +13,11 @@ use denote.Triple.Spec.{tripleOf}
 use denote.Triple.Table.{entered, cited}
 use Rattle.paper.specs.Refusals.{over}
 use Rattle.table.specs.Batch.{stored}
-use Rattle.table.proofs.Building.{Hand, Law, Step, Store, building-meets, turned}
+use Rattle.table.proofs.Batches.{storer}
 use Rattle.table.proofs.store.Symbol as store-def
 use Rattle.table.proofs.store.Symbol.{name as #table·store}
 use Rattle.table.proofs.store.Met as store-thm
+use Rattle.walks.proofs.Building.{Hand, Law, Step, Store, building-meets, turned}
 use Rattle.building.specs.Batch.{Record, recordsIn}
 use Rattle.building.specs.Standing.{State, Standing, Stopped, Stepped, IsStanding, Turned, turnsLeft}
 use Rattle.building.specs.Driving.{Ready, Driven}
@@ -35,7 +36,7 @@ Held = Hand u64 shape
 
 -- what a turn leaves
 abbrev after : Held → State → List ℕ → List ℕ → Held
-after x s w b = turned u64 shape from-field count-field (x .table) s w b
+after x s w b = turned u64 shape storer from-field count-field (x .table) s w b
 
 -- ---- before each turn
 -- the records made are the table's first ones, and the building goes on from them, or has stopped with them
@@ -100,7 +101,7 @@ stops input x₀ x before stopped = record {
   kept = before .kept;
 }
 
-abbrev law : Law u64 shape from-field count-field
+abbrev law : Law u64 shape storer from-field count-field
 law = record {
   Ask = λ i s w b. IsStanding i s w × (3240 ≤ length b);
   Tell = λ i s w b s′ w′ b′. Turned i s w s′ w′ b′;
@@ -119,9 +120,9 @@ unfolding code.routine tablesOf
 drive-spec 𝓤 H 𝓜 𝓖 𝓡 =
     entered 𝓤 H (tripleOf 𝓤 H (𝓖 .A) drive.signature (drive.spec 𝓤 H (𝓖 .A) (𝓜 .mem) (𝓡 .run)))
     (tables 𝓤 H 𝓜 𝓡 code.env .C) (tables 𝓤 H 𝓜 𝓡 code.env .Λ) #drive code.function (code.unfolded 𝓤 H 𝓜 𝓡)
-    (building-meets u64 shape from-field count-field law 𝓤 H (𝓖 .A) (𝓜 .mem) (𝓡 .run) (givenOf 𝓤 H 𝓜 𝓖) (tyInt w64) #step #table·store
+    (building-meets u64 shape storer from-field count-field law 𝓤 H (𝓖 .A) (givenOf 𝓤 H 𝓜 𝓖) (tyInt w64) #step #table·store
     (tablesOf 𝓤 H 𝓜 (tables 𝓤 H 𝓜 𝓡 code.env))
-    (cited 𝓤 H (Step u64 shape from-field count-field law 𝓤 H (𝓖 .A) (𝓜 .mem) (𝓡 .run)) 𝓜 𝓡 code.env #step step-def.routine
+    (cited 𝓤 H (Step u64 shape storer from-field count-field law 𝓤 H (𝓖 .A)) 𝓜 𝓡 code.env #step step-def.routine
     code.calls-building·step·step (step-thm.met 𝓤 H 𝓜 𝓖 𝓡))
-    (cited 𝓤 H (Store u64 shape from-field count-field law 𝓤 H (𝓖 .A) (𝓜 .mem) (𝓡 .run)) 𝓜 𝓡 code.env #table·store store-def.routine
+    (cited 𝓤 H (Store storer 𝓤 H (𝓖 .A)) 𝓜 𝓡 code.env #table·store store-def.routine
     code.calls-table·store (store-thm.met 𝓤 H 𝓜 𝓖 𝓡)))

@@ -1,32 +1,32 @@
 -- The law of a loop that copies: it reads the source where its state says, one entry a turn, and stores the records that `next` makes of it in the
 -- target. First what the law is of (`Law`), then the two signatures, the loop's MIR and the contracts, and the walk: `copying-meets`.
 -- Assumes `Given`.
-use Rattle.walks.proofs.Prelude.{ℕ, _<_, _*_, _^_, Lft, GName, Share, ftrue, flft, Fml, fobor, SProp, ent, id⊢, Fun, fact, u16, yes}
+use Rattle.walks.proofs.Prelude.{ℕ, _<_, _*_, _^_, Lft, GName, Share, ftrue, flft, Fml, fobor, SProp, ent, id⊢, fact, u16, yes}
 use Rattle.walks.proofs.Prelude.{shuts-slice, row, Is, shares, pointee, RattleType, owns, RefT, now, sliceTy, sliceVal, ShrSlice, Room}
 use Rattle.walks.proofs.Prelude.{slice-vals, shr-slice-tells, MutSlice, mut-slice-tells, nothing, owned, heard, Clauses, Ended, closing}
 use Rattle.walks.proofs.Prelude.{onEntry, Meets, Contract, Triple, says, needs, Stays, walkOf, Walks, ends-at, walked, walk-meets, Atoms}
 use Rattle.walks.proofs.Prelude.{fullShare, URA, Tr, length, getD, List, [], _∷_, _≡_, refl, _∙_, named, w16, w64, tyPtr, Ty, tyInt, Val}
-use Rattle.walks.proofs.Prelude.{Memory, Routine, Heap, WpFn, Tables, Wp, afterSeq, afterBlock, atReturn, afterTurn, WpFn-mono, fmOf, Given}
+use Rattle.walks.proofs.Prelude.{Heap, WpFn, Tables, Wp, afterSeq, afterBlock, atReturn, afterTurn, WpFn-mono, fmOf, Given}
 use Rattle.walks.proofs.Prelude.{‵, _⊛_, ⋆, _$_, _∵_, !, qed, by, move, keep, join, fsplit, fjoin, suffices, frame, done, drop, Item, raw}
 use Rattle.walks.proofs.Prelude.{Sq, runs, anyQ, atRet, use1, split3, feqL, group, agg, look, look-raw, init, forget, stop, hop, from, load}
 use Rattle.walks.proofs.Prelude.{lit, of-opd, bin, store, and-then, no-more, land, land-last, first, blocks, exec, arr-parts}
 use types.Kit as Kit
 use mathlib.Core.Bool.{true, false}
 use mir.Syntax.{Name, Fn, Body as Code, erased, imm, mut, tyBool, tyUnit, tyRef, deref, field, place, copy, int, skip as skipᴹ, seq}
 use mir.Syntax.{assign, block, loop, cond, exit, return, call, rvOpd, op2, mul, unsigned, offset, addrOf, aggregate}
 use Rattle.paper.specs.declared.Record.{Record}
 use Rattle.paper.specs.Records.{blankEntry}
 use Rattle.walks.proofs.Steps.{number-typed, slice-typed, value, part, elements, sets, rv-is}
 use Rattle.walks.proofs.Parameters.{by-value, lent, shown, still, gone, goes-still, goes-gone, goes-shown}
 use Rattle.walks.proofs.Locals.{var, full, bare, locals, Blocks, envOf, enters, leaves, span}
 use Rattle.walks.proofs.Loops.{tests, Onward, whiles, again}
-use Rattle.walks.proofs.States.{Shape, Field, State, Row, StateTy, machine, state-tells, state-makes, state-typed, field-fits, nil, silent}
+use Rattle.walks.proofs.States.{Shape, Field, State, StateType, StateTy, machine, state-tells, state-makes, state-typed, field-fits, nil, silent}
 use Rattle.walks.proofs.States.{holds, fails}
 use Rattle.walks.proofs.Entries.{entry-place, Entry, EntryTy, vals, typed, place-fits, owns-entry, looks-table, entry-out, entry-back}
 use Rattle.walks.proofs.Calls.{contract, calls}
 use Rattle.walks.proofs.Lending.{at-list, Mine, lends, has-back}
-pub use Rattle.table.proofs.Storing.{Hand, turned, Store}
-use Rattle.table.proofs.Storing.{Alike, turned-alike, stores}
+pub use Rattle.walks.proofs.Storing.{Hand, turned, Store}
+use Rattle.walks.proofs.Storing.{Storer, Alike, turned-alike, stores}
 
 -- ---- what the law is of
 --     fn drive(source: &[Record], s: S, work: &mut [P], target: &mut [Record], batch: &mut [u16]) -> S {
@@ -37,14 +37,14 @@ use Rattle.table.proofs.Storing.{Alike, turned-alike, stores}
 --             t = next(t, r, &mut *work, &mut *batch);
 --             let from = t.from;
 --             let count = t.count;
---             table::store(&mut *target, from, &*batch, count);
+--             store(&mut *target, from, &*batch, count);
 --         }
 --         t
 --     }
 -- What it has in hand is `Storing.antt`'s, where the table is the target.
-module _ (P : RattleType) (X : Shape) (at-field from-field count-field : Field X) where
+module _ (P : RattleType) (X : Shape) (storer : Storer) (at-field from-field count-field : Field X) where
   abbrev after : List Record → State X → List (P .Denot) → List ℕ → Hand P X
-  after = turned P X from-field count-field
+  after = turned P X storer from-field count-field
 
   -- the entry that a turn reads
   abbrev pub read : List Record → State X → Record
@@ -78,8 +78,8 @@ module _ (P : RattleType) (X : Shape) where
     signature = record {
       lifetimes = 2;
       outlives = [];
-      params = by-value (Row X) ∷ by-value Entry ∷ lent 0 tt P ∷ lent 1 tt u16 ∷ [];
-      result = by-value (Row X);
+      params = by-value (StateType X) ∷ by-value Entry ∷ lent 0 tt P ∷ lent 1 tt u16 ∷ [];
+      result = by-value (StateType X);
     };
     kept = (yes, (yes, (yes, (yes, tt))));
   }
@@ -89,14 +89,14 @@ module _ (P : RattleType) (X : Shape) where
     signature = record {
       lifetimes = 4;
       outlives = [];
-      params = shown 0 tt Entry ∷ by-value (Row X) ∷ lent 1 tt P ∷ lent 2 tt Entry ∷ lent 3 tt u16 ∷ [];
-      result = by-value (Row X);
+      params = shown 0 tt Entry ∷ by-value (StateType X) ∷ lent 1 tt P ∷ lent 2 tt Entry ∷ lent 3 tt u16 ∷ [];
+      result = by-value (StateType X);
     };
     kept = (yes, (yes, (yes, (yes, (yes, tt)))));
   }
 
   abbrev stayed : Stays (ended .signature .params) (ended .kept)
-  stayed = (gone (shown 0 tt Entry), (gone (by-value (Row X)), (still 1 tt P, (still 2 tt Entry, (still 3 tt u16, tt)))))
+  stayed = (gone (shown 0 tt Entry), (gone (by-value (StateType X)), (still 1 tt P, (still 2 tt Entry, (still 3 tt u16, tt)))))
 
 -- ---- the loop's MIR, at the keys of the two functions that it calls; π is the MIR type of the work's elements
 module _ (P : RattleType) (π : Ty) (X : Shape) (at-field from-field count-field : Field X) (k k′ : Name) where
@@ -152,8 +152,8 @@ Passed P X = RefT (List Record) × (State X × (RefT (List (P .Denot)) × (RefT 
 abbrev in-hand : {P : RattleType} {X : Shape} → Passed P X → Hand P X
 in-hand a = record { table = now (a .1 .1 .1 .0); state = a .1 .0; work = now (a .1 .1 .0); batch = now (a .1 .1 .1 .1 .0) }
 
-module _ (P : RattleType) (X : Shape) (at-field from-field count-field : Field X) (L : Law P X at-field from-field count-field) {M : Type 1}
-    (𝓤 : URA M) where
+module _ (P : RattleType) (X : Shape) (storer : Storer) (at-field from-field count-field : Field X)
+    (L : Law P X storer at-field from-field count-field) {M : Type 1} (𝓤 : URA M) where
   -- ---- the two contracts
   abbrev pub next-clauses : Clauses 𝓤 (next-ended P X)
   next-clauses κs a = record {
@@ -174,7 +174,7 @@ module _ (P : RattleType) (X : Shape) (at-field from-field count-field : Field X
     abbrev pub Next : Contract 𝓤
     Next = contract 𝓤 H A (next-ended P X) next-clauses
 
-    module _ (mem : Memory → SProp 𝓤) (run : Routine → Fun 𝓤) (W : Given 𝓤 H A) (κ κʷ κᵗ κᵇ : Lft) (q qʷ qᵗ qᵇ : Share) (b o : ℕ) (γ : GName)
+    module _ (W : Given 𝓤 H A) (κ κʷ κᵗ κᵇ : Lft) (q qʷ qᵗ qᵇ : Share) (b o : ℕ) (γ : GName)
         (bʷ oʷ : ℕ) (γʷ : GName) (bᵗ oᵗ : ℕ) (γᵗ : GName) (bᵇ oᵇ : ℕ) (γᵇ : GName) (ys : List Record) (x₀ : Hand P X) where
       abbrev source-slice : Val
       source-slice = sliceVal (b, o) (length ys)
@@ -210,7 +210,7 @@ module _ (P : RattleType) (X : Shape) (at-field from-field count-field : Field X
       abbrev Batch : List ℕ → Fml
       Batch l = Mine u16 bᵇ oᵇ κᵇ γᵇ (length (x₀ .batch)) l
 
-      exits : (x : Hand P X) → Is (Row X) (x .state) (machine X (x .state) ∷ []) → Alike P X x₀ x
+      exits : (x : Hand P X) → Is (StateType X) (x .state) (machine X (x .state) ∷ []) → Alike P X x₀ x
           → L .Copied ys x₀ x
           → ent 𝓤 (⋆ 𝓤 H A (‵ (flft κ q) ∷ ‵ (Target (x .table)) ∷ ‵ (flft κᵗ qᵗ) ∷ ‵ (Work (x .work)) ∷ ‵ (flft κʷ qʷ) ∷ ‵ (Batch (x .batch))
           ∷ ‵ (flft κᵇ qᵇ) ∷ [])) (Post (machine X (x .state)))
@@ -225,7 +225,7 @@ module _ (P : RattleType) (X : Shape) (at-field from-field count-field : Field X
           move ! (1 ∷ 0 ∷ []) $ join ! $ frame ! $
           nothing ! $ move ! (3 ∷ 0 ∷ []) $ fjoin ! $ move ! (1 ∷ 0 ∷ []) $ fjoin ! $ move ! (1 ∷ 0 ∷ []) $ fjoin ! $
           nothing ! $ fjoin ! $ nothing ! $ fjoin ! $ frame ! $
-          owned ! (Row X) (Is (Row X)) (state-makes X 𝓤 H A) (x .state) (machine X (x .state) ∷ []) good $ done !
+          owned ! (StateType X) (Is (StateType X)) (state-makes X 𝓤 H A) (x .state) (machine X (x .state) ∷ []) good $ done !
 
       -- ---- the call of `next`
       abbrev to-next : State X → Record → List (P .Denot) → List ℕ → ℕ → GName → ℕ → GName → Next .Ghost
@@ -240,7 +240,7 @@ module _ (P : RattleType) (X : Shape) (at-field from-field count-field : Field X
         tt,
       )
 
-      goes-next : (s : State X) → Is (Row X) s (machine X s ∷ []) → (r : Record) → Is Entry r (vals r) → (w : List (P .Denot)) (l : List ℕ)
+      goes-next : (s : State X) → Is (StateType X) s (machine X s ∷ []) → (r : Record) → Is Entry r (vals r) → (w : List (P .Denot)) (l : List ℕ)
           → L .Ask s r w l
           → (ν : ℕ) (δ : GName) (ν′ : ℕ) (δ′ : GName)
           → ent 𝓤 (⋆ 𝓤 H A (‵ (flft (ν ∷ []) fullShare) ∷ ‵ (flft (ν′ ∷ []) fullShare) ∷ ‵ (Mine P bʷ oʷ (ν ∷ []) δ (length (x₀ .work)) w)
@@ -251,14 +251,14 @@ module _ (P : RattleType) (X : Shape) (at-field from-field count-field : Field X
           ∷ ‵ (Mine u16 bᵇ oᵇ (ν′ ∷ []) δ′ (length (x₀ .batch)) l) ∷ []) ∵
           says ! ask $ nothing ! $ move ! (2 ∷ 0 ∷ []) $ join ! $ move ! (1 ∷ 0 ∷ []) $ join ! $ frame ! $
           nothing ! $ move ! (2 ∷ 0 ∷ []) $ fjoin ! $ move ! (1 ∷ 0 ∷ []) $ fjoin ! $ owns-entry ! r good′ $ fjoin ! $
-          owned ! (Row X) (Is (Row X)) (state-makes X 𝓤 H A) s (machine X s ∷ []) good $ fjoin ! $ done !
+          owned ! (StateType X) (Is (StateType X)) (state-makes X 𝓤 H A) s (machine X s ∷ []) good $ fjoin ! $ done !
 
       -- ---- the loop
       abbrev Good : Hand P X → Type 0
-      Good x = Is (Row X) (x .state) (machine X (x .state) ∷ []) × (Alike P X x₀ x × L .Before ys x₀ x)
+      Good x = Is (StateType X) (x .state) (machine X (x .state) ∷ []) × (Alike P X x₀ x × L .Before ys x₀ x)
 
-      module _ (π : Ty) (k k′ : Name) (𝓣 : Tables 𝓤 H) (known : Triple 𝓤 (𝓣 .C k) Next) (known′ : Triple 𝓤 (𝓣 .C k′) (Store 𝓤 H A mem run))
-          (source-room : Room Entry (length ys)) (state-good : Is (Row X) (x₀ .state) (machine X (x₀ .state) ∷ []))
+      module _ (π : Ty) (k k′ : Name) (𝓣 : Tables 𝓤 H) (known : Triple 𝓤 (𝓣 .C k) Next) (known′ : Triple 𝓤 (𝓣 .C k′) (Store storer 𝓤 H A))
+          (source-room : Room Entry (length ys)) (state-good : Is (StateType X) (x₀ .state) (machine X (x₀ .state) ∷ []))
           (work-room : Room P (length (x₀ .work))) (target-room : Room Entry (length (x₀ .table))) (batch-room : Room u16 (length (x₀ .batch))) where
         abbrev loop-code : Fn
         loop-code = function P π X at-field from-field count-field k k′
@@ -332,7 +332,7 @@ module _ (P : RattleType) (X : Shape) (at-field from-field count-field : Field X
               sets ! 54 refl (agg ! (and-then ! (value ! 52 refl) (and-then ! (part ! 18 refl refl refl) (no-more !))))
               (slice-typed (batch-room .0)) $
               move ! (0 ∷ 1 ∷ 4 ∷ 5 ∷ []) $
-              stores W mem run bᵗ oᵗ bᵇ oᵇ (length (x₀ .table)) (length (x₀ .batch)) (x .table) (from-field .value s) (us .1 .1 .1 .0)
+              stores storer W bᵗ oᵗ bᵇ oᵇ (length (x₀ .table)) (length (x₀ .batch)) (x .table) (from-field .value s) (us .1 .1 .1 .0)
               (count-field .value s) (fmOf 𝓤 H (W .laws) 𝓣) known′ target-room batch-room (long .0) (batch-long ∙ long .1 .1)
               (field-fits X W s good′ from-field .fits) (field-fits X W s good′ count-field .fits)
               (λ _ _ _ _ _.
@@ -370,7 +370,7 @@ module _ (P : RattleType) (X : Shape) (at-field from-field count-field : Field X
               bytes h = place-fits (length ys) i source-room (here h .0)
 
               after : State X → List (P .Denot) → List ℕ → Hand P X
-              after s w l = turned P X from-field count-field (x .table) s w l
+              after s w l = turned P X storer from-field count-field (x .table) s w l
 
               on : Tr (X .going (x .state)) → (s : State X) (w : List (P .Denot)) (l : List ℕ) → length w ≡ length (x .work)
                   → length l ≡ length (x .batch)
@@ -379,7 +379,7 @@ module _ (P : RattleType) (X : Shape) (at-field from-field count-field : Field X
               on h s w l work-long batch-long e = ((same, next .0), next .1)
                 where
                   same : Alike P X x₀ (after s w l)
-                  same = turned-alike P X from-field count-field x₀ x s w l long work-long batch-long
+                  same = turned-alike P X storer from-field count-field x₀ x s w l long work-long batch-long
 
                   next : L .Before ys x₀ (after s w l) × (L .falls ys (after s w l) < L .falls ys x)
                   next = L .onward ys x₀ x s w l long same (ok .1 .1) (holds (X .going (x .state)) h) e
@@ -388,7 +388,7 @@ module _ (P : RattleType) (X : Shape) (at-field from-field count-field : Field X
             (WpFn 𝓤 H (𝓣 .C) (𝓣 .Λ) loop-code (source-slice ∷ machine X (x₀ .state) ∷ work-slice ∷ target-slice ∷ batch-slice ∷ []) Post)
         walk ready =
             qed W ((‵ (flft κ q) ⊛ ‵ (flft κʷ qʷ) ⊛ ‵ (flft κᵗ qᵗ) ⊛ ‵ (flft κᵇ qᵇ) ⊛ ‵ ftrue)
-            ∷ ‵ (owns (ShrSlice (named 0) κ Entry ∷ Row X ∷ MutSlice (named 1) κʷ P ∷ MutSlice (named 2) κᵗ Entry ∷ MutSlice (named 3) κᵇ u16 ∷ [])
+            ∷ ‵ (owns (ShrSlice (named 0) κ Entry ∷ StateType X ∷ MutSlice (named 1) κʷ P ∷ MutSlice (named 2) κᵗ Entry ∷ MutSlice (named 3) κᵇ u16 ∷ [])
             passed machines) ∷ []) ∵
             enters ! (𝓣 .C) (𝓣 .Λ) loop-code (source-slice ∷ machine X (x₀ .state) ∷ work-slice ∷ target-slice ∷ batch-slice ∷ []) Post
             (λ bs. (slice-typed (source-room .0), (state-typed X W (x₀ .state) state-good, (slice-typed (work-room .0), (slice-typed (target-room .0), (slice-typed (batch-room .0), tt)))))) (λ bs.
@@ -405,8 +405,8 @@ module _ (P : RattleType) (X : Shape) (at-field from-field count-field : Field X
             first ! $ blocks ! $ whiles ! 𝓣 Good (L .falls ys) (Context bs p) {q = Left bs p} (turn bs p) x₀
             (state-good, ((refl, (refl, refl)), L .starts ys x₀ ready))))
 
-    module _ (mem : Memory → SProp 𝓤) (run : Routine → Fun 𝓤) (W : Given 𝓤 H A) (π : Ty) (k k′ : Name) (𝓣 : Tables 𝓤 H)
-        (known : Triple 𝓤 (𝓣 .C k) Next) (known′ : Triple 𝓤 (𝓣 .C k′) (Store 𝓤 H A mem run)) where
+    module _ (W : Given 𝓤 H A) (π : Ty) (k k′ : Name) (𝓣 : Tables 𝓤 H)
+        (known : Triple 𝓤 (𝓣 .C k) Next) (known′ : Triple 𝓤 (𝓣 .C k′) (Store storer 𝓤 H A)) where
       abbrev runs-it : List Val → (Val → SProp 𝓤) → SProp 𝓤
       runs-it = WpFn 𝓤 H (𝓣 .C) (𝓣 .Λ) (function P π X at-field from-field count-field k k′)
 
@@ -416,16 +416,16 @@ module _ (P : RattleType) (X : Shape) (at-field from-field count-field : Field X
           (λ κs. (slice-vals, ((λ s. machine X s ∷ []), (slice-vals, (slice-vals, (slice-vals, tt))))))
           (λ κs. (shr-slice-tells (named 0) (κs .0) Entry, (state-tells X, (mut-slice-tells (named 1) (κs .1 .0) P, (mut-slice-tells (named 2) (κs .1 .1 .0) Entry, (mut-slice-tells (named 3) (κs .1 .1 .1 .0) u16, tt))))))
           (λ κs qs bounds a g are. needs 𝓤 (L .Ready (a .0 .now) (in-hand a)) _
-          (walk mem run W (κs .0) (κs .1 .0) (κs .1 .1 .0) (κs .1 .1 .1 .0) (qs .0) (qs .1 .0) (qs .1 .1 .0) (qs .1 .1 .1 .0)
+          (walk W (κs .0) (κs .1 .0) (κs .1 .1 .0) (κs .1 .1 .1 .0) (qs .0) (qs .1 .0) (qs .1 .1 .0) (qs .1 .1 .1 .0)
           (a .0 .ptr .0) (a .0 .ptr .1) (a .0 .name) (a .1 .1 .0 .ptr .0) (a .1 .1 .0 .ptr .1) (a .1 .1 .0 .name)
           (a .1 .1 .1 .0 .ptr .0) (a .1 .1 .1 .0 .ptr .1) (a .1 .1 .1 .0 .name)
           (a .1 .1 .1 .1 .0 .ptr .0) (a .1 .1 .1 .1 .0 .ptr .1) (a .1 .1 .1 .1 .0 .name)
           (a .0 .now) (in-hand a) π k k′ 𝓣 known known′
           (are .0 .0 .1) (are .1 .0) (are .1 .1 .0 .0 .1) (are .1 .1 .1 .0 .0 .1) (are .1 .1 .1 .1 .0 .0 .1)))
 
-      -- the loop's MIR meets its contract, where `next` meets its own, and `store` its own
+      -- the loop's MIR meets its contract, where `next` meets its own, and the function that stores its own
       pub copying-meets : Meets 𝓤 H A (ended P X .signature) runs-it (closing 𝓤 H A (ended P X) clauses)
       copying-meets =
           walk-meets 𝓤 H A (ended P X) (stayed P X) W
-          (goes-shown W 4 0 tt Entry, (goes-gone W 4 (by-value (Row X)) (λ κs. silent X), (goes-still W 4 1 tt P, (goes-still W 4 2 tt Entry, (goes-still W 4 3 tt u16, tt)))))
+          (goes-shown W 4 0 tt Entry, (goes-gone W 4 (by-value (StateType X)) (λ κs. silent X), (goes-still W 4 1 tt P, (goes-still W 4 2 tt Entry, (goes-still W 4 3 tt u16, tt)))))
           clauses runs-it (WpFn-mono 𝓤 H (W .laws) 𝓣 (function P π X at-field from-field count-field k k′)) copying-walks

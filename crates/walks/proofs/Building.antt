@@ -1,33 +1,32 @@
--- The law of the building loop, for any state (`States.antt`) and any covered function `step`. First what the law is of (`Law`), then the two
--- signatures, the loop's MIR and the contracts, and the walk: `building-meets`.
+-- The law of the building loop, for any state (`States.antt`), any covered function `step` and any function that stores (`Storing.antt`). First what
+-- the law is of (`Law`), then the two signatures, the loop's MIR and the contracts, and the walk: `building-meets`.
 -- Assumes `Given`.
-use Rattle.walks.proofs.Prelude.{ℕ, _<_, Lft, GName, Share, ftrue, flft, Fml, SProp, ent, id⊢, Fun, fact, u16, u8, yes, Is, pointee}
+use Rattle.walks.proofs.Prelude.{ℕ, _<_, Lft, GName, Share, ftrue, flft, Fml, SProp, ent, id⊢, fact, u16, u8, yes, Is, pointee}
 use Rattle.walks.proofs.Prelude.{RattleType, owns, RefT, now, sliceTy, sliceVal, ShrSlice, Room, slice-vals, shr-slice-tells, MutSlice}
 use Rattle.walks.proofs.Prelude.{mut-slice-tells, nothing, owned, heard, Clauses, Ended, closing, onEntry, Meets, Contract, Triple, says}
 use Rattle.walks.proofs.Prelude.{needs, Stays, walkOf, Walks, ends-at, walked, walk-meets, Atoms, fullShare, URA, Tr, length, List, [], _∷_}
-use Rattle.walks.proofs.Prelude.{_≡_, refl, _∙_, named, w8, w16, w64, Ty, tyInt, Val, Memory, Routine, Heap, WpFn, Tables, Wp, afterSeq}
+use Rattle.walks.proofs.Prelude.{_≡_, refl, _∙_, named, w8, w16, w64, Ty, tyInt, Val, Heap, WpFn, Tables, Wp, afterSeq}
 use Rattle.walks.proofs.Prelude.{afterBlock, atReturn, afterTurn, WpFn-mono, fmOf, Given, ‵, _⊛_, ⋆, _$_, _∵_, !, qed, by, move, keep, split}
 use Rattle.walks.proofs.Prelude.{join, fsplit, fjoin, suffices, frame, done, drop, Item, raw, Sq, runs, anyQ, atRet, use1, split3, feqL}
 use Rattle.walks.proofs.Prelude.{group, agg, init, forget, stop, from, of-opd, store, and-then, no-more, land, land-last, first, blocks}
 use Rattle.walks.proofs.Prelude.{exec}
 use types.Kit as Kit
 use mathlib.Core.Bool.{true, false}
 use mir.Syntax.{Name, Fn, Body as Code, erased, imm, mut, tyBool, tyUnit, tyRef, deref, field, place, copy, skip as skipᴹ, seq}
 use mir.Syntax.{assign, block, loop, cond, exit, return, call, rvOpd, addrOf, aggregate}
 use denote.Slice.{shr-slice-copy}
 use Rattle.paper.specs.declared.Record.{Record}
 use Rattle.walks.proofs.Steps.{slice-typed, value, part, elements, sets, rv-is}
 use Rattle.walks.proofs.Parameters.{by-value, lent, shown, still, gone, goes-still, goes-gone, goes-shown}
 use Rattle.walks.proofs.Locals.{var, full, bare, locals, Blocks, envOf, enters, leaves, span}
 use Rattle.walks.proofs.Loops.{tests, Onward, whiles, again}
-use Rattle.walks.proofs.States.{Shape, Field, State, Row, StateTy, machine, state-tells, state-makes, state-typed, field-fits, nil, silent}
+use Rattle.walks.proofs.States.{Shape, Field, State, StateType, StateTy, machine, state-tells, state-makes, state-typed, field-fits, nil, silent}
 use Rattle.walks.proofs.States.{holds, fails}
 use Rattle.walks.proofs.Entries.{Entry, EntryTy}
 use Rattle.walks.proofs.Calls.{contract, calls}
 use Rattle.walks.proofs.Lending.{at-list, Mine, Seen, lends, has-back}
-pub use Rattle.table.proofs.Storing.{Hand, turned}
-use Rattle.table.proofs.Storing as storing
-use Rattle.table.proofs.Storing.{Alike, turned-alike, stores}
+pub use Rattle.walks.proofs.Storing.{Hand, turned, Store}
+use Rattle.walks.proofs.Storing.{Storer, Alike, turned-alike, stores}
 
 -- ---- what the law is of
 --     fn drive(table: &mut [Record], input: &[u8], s: S, work: &mut [P], batch: &mut [u16]) -> S {
@@ -40,9 +39,9 @@ use Rattle.table.proofs.Storing.{Alike, turned-alike, stores}
 --         }
 --         t
 --     }
-module _ (P : RattleType) (X : Shape) (from-field count-field : Field X) where
+module _ (P : RattleType) (X : Shape) (storer : Storer) (from-field count-field : Field X) where
   abbrev after : List Record → State X → List (P .Denot) → List ℕ → Hand P X
-  after = turned P X from-field count-field
+  after = turned P X storer from-field count-field
 
   -- the clauses of the two contracts, and what is to be shown of them: facts on plain values
   pub record Law : Type 1 where
@@ -69,8 +68,8 @@ module _ (P : RattleType) (X : Shape) where
     signature = record {
       lifetimes = 3;
       outlives = [];
-      params = by-value (Row X) ∷ shown 0 tt u8 ∷ lent 1 tt P ∷ lent 2 tt u16 ∷ [];
-      result = by-value (Row X);
+      params = by-value (StateType X) ∷ shown 0 tt u8 ∷ lent 1 tt P ∷ lent 2 tt u16 ∷ [];
+      result = by-value (StateType X);
     };
     kept = (yes, (yes, (yes, (yes, tt))));
   }
@@ -80,14 +79,14 @@ module _ (P : RattleType) (X : Shape) where
     signature = record {
       lifetimes = 4;
       outlives = [];
-      params = lent 0 tt Entry ∷ shown 1 tt u8 ∷ by-value (Row X) ∷ lent 2 tt P ∷ lent 3 tt u16 ∷ [];
-      result = by-value (Row X);
+      params = lent 0 tt Entry ∷ shown 1 tt u8 ∷ by-value (StateType X) ∷ lent 2 tt P ∷ lent 3 tt u16 ∷ [];
+      result = by-value (StateType X);
     };
     kept = (yes, (yes, (yes, (yes, (yes, tt)))));
   }
 
   abbrev stayed : Stays (ended .signature .params) (ended .kept)
-  stayed = (still 0 tt Entry, (gone (shown 1 tt u8), (gone (by-value (Row X)), (still 2 tt P, (still 3 tt u16, tt)))))
+  stayed = (still 0 tt Entry, (gone (shown 1 tt u8), (gone (by-value (StateType X)), (still 2 tt P, (still 3 tt u16, tt)))))
 
 -- ---- the loop's MIR, at the keys of the two functions that it calls; π is the MIR type of the work's elements
 module _ (P : RattleType) (π : Ty) (X : Shape) (from-field count-field : Field X) (k k′ : Name) where
@@ -137,7 +136,8 @@ Passed P X = RefT (List Record) × (RefT (List ℕ) × (State X × (RefT (List (
 abbrev in-hand : {P : RattleType} {X : Shape} → Passed P X → Hand P X
 in-hand a = record { table = now (a .0); state = a .1 .1 .0; work = now (a .1 .1 .1 .0); batch = now (a .1 .1 .1 .1 .0) }
 
-module _ (P : RattleType) (X : Shape) (from-field count-field : Field X) (L : Law P X from-field count-field) {M : Type 1} (𝓤 : URA M) where
+module _ (P : RattleType) (X : Shape) (storer : Storer) (from-field count-field : Field X) (L : Law P X storer from-field count-field) {M : Type 1}
+    (𝓤 : URA M) where
   -- ---- the two contracts
   abbrev pub step-clauses : Clauses 𝓤 (step-ended P X)
   step-clauses κs a = record {
@@ -154,12 +154,9 @@ module _ (P : RattleType) (X : Shape) (from-field count-field : Field X) (L : La
         fact 𝓤 (L .Built (now (a .1 .0)) (in-hand a) y);
   }
 
-  module _ (H : Heap 𝓤) (A : Atoms 𝓤) (mem : Memory → SProp 𝓤) (run : Routine → Fun 𝓤) where
+  module _ (H : Heap 𝓤) (A : Atoms 𝓤) where
     abbrev pub Step : Contract 𝓤
     Step = contract 𝓤 H A (step-ended P X) step-clauses
-
-    abbrev pub Store : Contract 𝓤
-    Store = storing.Store 𝓤 H A mem run
 
     module _ (W : Given 𝓤 H A) (κ κⁱ κʷ κᵇ : Lft) (q qⁱ qʷ qᵇ : Share) (b o : ℕ) (γ : GName) (bⁱ oⁱ : ℕ) (γⁱ : GName) (bʷ oʷ : ℕ) (γʷ : GName)
         (bᵇ oᵇ : ℕ) (γᵇ : GName) (input : List ℕ) (x₀ : Hand P X) where
@@ -200,7 +197,7 @@ module _ (P : RattleType) (X : Shape) (from-field count-field : Field X) (L : La
       abbrev Batch : List ℕ → Fml
       Batch l = Mine u16 bᵇ oᵇ κᵇ γᵇ (length (x₀ .batch)) l
 
-      exits : (x : Hand P X) → Is (Row X) (x .state) (machine X (x .state) ∷ []) → Alike P X x₀ x → L .Built input x₀ x
+      exits : (x : Hand P X) → Is (StateType X) (x .state) (machine X (x .state) ∷ []) → Alike P X x₀ x → L .Built input x₀ x
           → ent 𝓤 (⋆ 𝓤 H A (‵ (Table (x .table)) ∷ ‵ (flft κ q) ∷ ‵ (Work (x .work)) ∷ ‵ (flft κʷ qʷ) ∷ ‵ (Batch (x .batch)) ∷ ‵ (flft κᵇ qᵇ)
           ∷ ‵ (flft κⁱ qⁱ) ∷ [])) (Post (machine X (x .state)))
       exits x good l e =
@@ -214,7 +211,7 @@ module _ (P : RattleType) (X : Shape) (from-field count-field : Field X) (L : La
           move ! (2 ∷ 0 ∷ []) $ join ! $ frame ! $
           nothing ! $ move ! (3 ∷ 0 ∷ []) $ fjoin ! $ move ! (2 ∷ 0 ∷ []) $ fjoin ! $ nothing ! $ fjoin ! $ nothing ! $ fjoin ! $
           move ! (1 ∷ 0 ∷ []) $ fjoin ! $ frame ! $
-          owned ! (Row X) (Is (Row X)) (state-makes X 𝓤 H A) (x .state) (machine X (x .state) ∷ []) good $ done !
+          owned ! (StateType X) (Is (StateType X)) (state-makes X 𝓤 H A) (x .state) (machine X (x .state) ∷ []) good $ done !
 
       -- ---- the call of `step`
       abbrev to-step : State X → List (P .Denot) → List ℕ → ℕ → GName → ℕ → GName → Step .Ghost
@@ -229,7 +226,7 @@ module _ (P : RattleType) (X : Shape) (from-field count-field : Field X) (L : La
         tt,
       )
 
-      goes-step : (s : State X) → Is (Row X) s (machine X s ∷ []) → (w : List (P .Denot)) (l : List ℕ) → L .Ask input s w l
+      goes-step : (s : State X) → Is (StateType X) s (machine X s ∷ []) → (w : List (P .Denot)) (l : List ℕ) → L .Ask input s w l
           → (ν : ℕ) (δ : GName) (ν′ : ℕ) (δ′ : GName)
           → ent 𝓤 (⋆ 𝓤 H A (‵ (flft κⁱ qⁱ) ∷ ‵ (flft (ν ∷ []) fullShare) ∷ ‵ (flft (ν′ ∷ []) fullShare) ∷ ‵ Input
           ∷ ‵ (Mine P bʷ oʷ (ν ∷ []) δ (length (x₀ .work)) w) ∷ ‵ (Mine u16 bᵇ oᵇ (ν′ ∷ []) δ′ (length (x₀ .batch)) l) ∷ []))
@@ -239,15 +236,15 @@ module _ (P : RattleType) (X : Shape) (from-field count-field : Field X) (L : La
           ∷ ‵ (Mine P bʷ oʷ (ν ∷ []) δ (length (x₀ .work)) w) ∷ ‵ (Mine u16 bᵇ oᵇ (ν′ ∷ []) δ′ (length (x₀ .batch)) l) ∷ []) ∵
           says ! ask $ nothing ! $ move ! (3 ∷ 0 ∷ []) $ join ! $ move ! (2 ∷ 0 ∷ []) $ join ! $ move ! (1 ∷ 0 ∷ []) $ join ! $ frame ! $
           nothing ! $ move ! (3 ∷ 0 ∷ []) $ fjoin ! $ move ! (2 ∷ 0 ∷ []) $ fjoin ! $ move ! (1 ∷ 0 ∷ []) $ fjoin ! $
-          owned ! (Row X) (Is (Row X)) (state-makes X 𝓤 H A) s (machine X s ∷ []) good $ fjoin ! $ done !
+          owned ! (StateType X) (Is (StateType X)) (state-makes X 𝓤 H A) s (machine X s ∷ []) good $ fjoin ! $ done !
 
       -- ---- the loop
       abbrev Good : Hand P X → Type 0
-      Good x = Is (Row X) (x .state) (machine X (x .state) ∷ []) × (Alike P X x₀ x × L .Before input x₀ x)
+      Good x = Is (StateType X) (x .state) (machine X (x .state) ∷ []) × (Alike P X x₀ x × L .Before input x₀ x)
 
-      module _ (π : Ty) (k k′ : Name) (𝓣 : Tables 𝓤 H) (known : Triple 𝓤 (𝓣 .C k) Step) (known′ : Triple 𝓤 (𝓣 .C k′) Store)
+      module _ (π : Ty) (k k′ : Name) (𝓣 : Tables 𝓤 H) (known : Triple 𝓤 (𝓣 .C k) Step) (known′ : Triple 𝓤 (𝓣 .C k′) (Store storer 𝓤 H A))
           (table-room : Room Entry (length (x₀ .table))) (input-room : Room u8 (length input))
-          (state-good : Is (Row X) (x₀ .state) (machine X (x₀ .state) ∷ []))
+          (state-good : Is (StateType X) (x₀ .state) (machine X (x₀ .state) ∷ []))
           (work-room : Room P (length (x₀ .work))) (batch-room : Room u16 (length (x₀ .batch))) where
         abbrev loop-code : Fn
         loop-code = function P π X from-field count-field k k′
@@ -315,7 +312,7 @@ module _ (P : RattleType) (X : Shape) (from-field count-field : Field X) (L : La
               sets ! 44 refl (agg ! (and-then ! (value ! 42 refl) (and-then ! (part ! 18 refl refl refl) (no-more !))))
               (slice-typed (batch-room .0)) $
               move ! (0 ∷ 1 ∷ 4 ∷ 5 ∷ []) $
-              stores W mem run b o bᵇ oᵇ (length (x₀ .table)) (length (x₀ .batch)) (x .table) (from-field .value s) (us .1 .1 .1 .0)
+              stores storer W b o bᵇ oᵇ (length (x₀ .table)) (length (x₀ .batch)) (x .table) (from-field .value s) (us .1 .1 .1 .0)
               (count-field .value s) (fmOf 𝓤 H (W .laws) 𝓣) known′ table-room batch-room (long .0) (batch-long ∙ long .1 .1)
               (field-fits X W s good from-field .fits) (field-fits X W s good count-field .fits)
               (λ _ _ _ _ _.
@@ -342,7 +339,7 @@ module _ (P : RattleType) (X : Shape) (from-field count-field : Field X) (L : La
               asks h = L .asks input x₀ x long (ok .1 .1) (holds (X .going (x .state)) h)
 
               after : State X → List (P .Denot) → List ℕ → Hand P X
-              after s w l = turned P X from-field count-field (x .table) s w l
+              after s w l = turned P X storer from-field count-field (x .table) s w l
 
               on : Tr (X .going (x .state)) → (s : State X) (w : List (P .Denot)) (l : List ℕ) → length w ≡ length (x .work)
                   → length l ≡ length (x .batch)
@@ -351,7 +348,7 @@ module _ (P : RattleType) (X : Shape) (from-field count-field : Field X) (L : La
               on h s w l work-long batch-long e = ((same, next .0), next .1)
                 where
                   same : Alike P X x₀ (after s w l)
-                  same = turned-alike P X from-field count-field x₀ x s w l long work-long batch-long
+                  same = turned-alike P X storer from-field count-field x₀ x s w l long work-long batch-long
 
                   next : L .Before input x₀ (after s w l) × (L .falls input (after s w l) < L .falls input x)
                   next = L .onward input x₀ x s w l long same (ok .1 .1) (holds (X .going (x .state)) h) e
@@ -360,7 +357,7 @@ module _ (P : RattleType) (X : Shape) (from-field count-field : Field X) (L : La
             (WpFn 𝓤 H (𝓣 .C) (𝓣 .Λ) loop-code (table-slice ∷ input-slice ∷ machine X (x₀ .state) ∷ work-slice ∷ batch-slice ∷ []) Post)
         walk ready =
             qed W ((‵ (flft κ q) ⊛ ‵ (flft κⁱ qⁱ) ⊛ ‵ (flft κʷ qʷ) ⊛ ‵ (flft κᵇ qᵇ) ⊛ ‵ ftrue)
-            ∷ ‵ (owns (MutSlice (named 0) κ Entry ∷ ShrSlice (named 1) κⁱ u8 ∷ Row X ∷ MutSlice (named 2) κʷ P ∷ MutSlice (named 3) κᵇ u16 ∷ [])
+            ∷ ‵ (owns (MutSlice (named 0) κ Entry ∷ ShrSlice (named 1) κⁱ u8 ∷ StateType X ∷ MutSlice (named 2) κʷ P ∷ MutSlice (named 3) κᵇ u16 ∷ [])
             passed machines) ∷ []) ∵
             enters ! (𝓣 .C) (𝓣 .Λ) loop-code (table-slice ∷ input-slice ∷ machine X (x₀ .state) ∷ work-slice ∷ batch-slice ∷ []) Post
             (λ bs. (slice-typed (table-room .0), (slice-typed (input-room .0), (state-typed X W (x₀ .state) state-good, (slice-typed (work-room .0), (slice-typed (batch-room .0), tt)))))) (λ bs.
@@ -374,7 +371,7 @@ module _ (P : RattleType) (X : Shape) (from-field count-field : Field X) (L : La
             first ! $ blocks ! $ whiles ! 𝓣 Good (L .falls input) (Context bs) {q = Left bs} (turn bs) x₀
             (state-good, ((refl, (refl, refl)), L .starts input x₀ ready)))
 
-    module _ (W : Given 𝓤 H A) (π : Ty) (k k′ : Name) (𝓣 : Tables 𝓤 H) (known : Triple 𝓤 (𝓣 .C k) Step) (known′ : Triple 𝓤 (𝓣 .C k′) Store) where
+    module _ (W : Given 𝓤 H A) (π : Ty) (k k′ : Name) (𝓣 : Tables 𝓤 H) (known : Triple 𝓤 (𝓣 .C k) Step) (known′ : Triple 𝓤 (𝓣 .C k′) (Store storer 𝓤 H A)) where
       abbrev runs-it : List Val → (Val → SProp 𝓤) → SProp 𝓤
       runs-it = WpFn 𝓤 H (𝓣 .C) (𝓣 .Λ) (function P π X from-field count-field k k′)
 
@@ -391,9 +388,9 @@ module _ (P : RattleType) (X : Shape) (from-field count-field : Field X) (L : La
           (a .1 .0 .now) (in-hand a) π k k′ 𝓣 known known′
           (are .0 .0 .1) (are .1 .0 .0 .1) (are .1 .1 .0) (are .1 .1 .1 .0 .0 .1) (are .1 .1 .1 .1 .0 .0 .1)))
 
-      -- the loop's MIR meets its contract, where `step` meets its own, and `store` its own
+      -- the loop's MIR meets its contract, where `step` meets its own, and the function that stores its own
       pub building-meets : Meets 𝓤 H A (ended P X .signature) runs-it (closing 𝓤 H A (ended P X) clauses)
       building-meets =
           walk-meets 𝓤 H A (ended P X) (stayed P X) W
-          (goes-still W 4 0 tt Entry, (goes-shown W 4 1 tt u8, (goes-gone W 4 (by-value (Row X)) (λ κs. silent X), (goes-still W 4 2 tt P, (goes-still W 4 3 tt u16, tt)))))
+          (goes-still W 4 0 tt Entry, (goes-shown W 4 1 tt u8, (goes-gone W 4 (by-value (StateType X)) (λ κs. silent X), (goes-still W 4 2 tt P, (goes-still W 4 3 tt u16, tt)))))
           clauses runs-it (WpFn-mono 𝓤 H (W .laws) 𝓣 (function P π X from-field count-field k k′)) building-walks
