@@ -15,9 +15,9 @@ use Rattle.paper.specs.Refusals.{Test, answer, atEach, headTests, laterTests, q
 use Rattle.paper.specs.Stream.{StreamRecord, bodyLength, number, recordsOf}
 use Rattle.laws.proofs.Lists.{both-true, which}
 use Rattle.laws.proofs.Replies.{Passes, answered, answers, unless-append}
+use Rattle.stream.specs.OneRecord.{AtLaterRecord, QueryState, headReply, laterReply, queryStep, queryUpTo, queryWith}
 use Rattle.stream.specs.Positions.{WholeBetween, after, recordAt, recordsBetween}
 use Rattle.stream.specs.Reading.{QueryFacts, queryFacts, queryReply}
-use Rattle.stream.specs.Steps.{AtLaterRecord, QueryState, headReply, laterReply, queryStep, queryUpTo, queryWith}
 use Rattle.stream.proofs.EachRecord.{first-refused, passes-more, refused-append}
 use Rattle.stream.proofs.Positions.{between-more, records-between, records-here, records-none, whole-inside, whole-more, whole-none}
 
