@@ -51,7 +51,7 @@ module _ (input : List ℕ) (f : QueryFacts) (s : QueryState) (k : QuerySoFar in
 
   module _ (here : s .at < length input) where
     pub at-record : f .arity ≤ 4 → AtLaterRecord input f s
-    at-record places = record { places = places; before = k .before; state = k .state; here = here }
+    at-record few = record { few-places = few; before = k .before; state = k .state; here = here }
 
     -- one more record that passes
     pub query-goes-on : (next : QueryState) → answer next ≡ queryStep input f (s .at) → QuerySoFar input f next × (s .at < next .at)

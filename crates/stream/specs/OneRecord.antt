@@ -67,7 +67,7 @@ fits f r = (leb 17 (r .kind) && leb (r .kind) 19) && wholeInRange f r
 
 -- a record of this kind stands at the position, behind a head whose arity is in range
 pub record AtKind (input : List ℕ) (f : QueryFacts) (at k : ℕ) : Type 0 where
-  pub places : f .arity ≤ 4
+  pub few-places : f .arity ≤ 4
   pub here : at < length input
   pub kind : getD input at 0 ≡ k
 
@@ -77,7 +77,7 @@ queryUpTo input f to = record { at = to; rules = length (rulesOf (recordsBetween
 
 -- whole records behind the head up to another one, and the state that they make
 pub record AtLaterRecord (input : List ℕ) (f : QueryFacts) (s : QueryState) : Type 0 where
-  pub places : f .arity ≤ 4
+  pub few-places : f .arity ≤ 4
   pub before : WholeBetween input (f .rules) (s .at)
   pub state : s ≡ queryUpTo input f (s .at)
   pub here : s .at < length input

@@ -1,15 +1,16 @@
-// Reading the input stream of document 01: the length of a record, the tree, what stands in records, and the query.
-// Refusals 1 to 4 are those of `paper` (Refusals.antt). specs/Reading.antt says what the two readers answer, specs/Positions.antt
-// what `next_rule` finds, and specs/OneRecord.antt what the functions in between answer for one record.
-mod fits;
-mod head;
-mod lengths;
-mod query;
-mod record;
-mod rules;
-mod said;
-mod tree;
+// Reading the input stream of document 01, one file a subject. The two readers answer with refusals
+// 1 to 4, or with the numbers that a build goes on with (specs/Reading.antt). `next_rule` finds rules
+// (specs/Positions.antt). What is answered for one record in between stands in specs/OneRecord.antt.
+mod fits; // whether a record behind the query's head is whole and in range
+mod head; // the query's head
+mod lengths; // the length of a body, by its kind
+mod query; // the records behind the head, and all of the query
+mod record; // one record: its kind, and the bytes that it begins with
+mod rules; // the rules of a symbol
+mod said; // what is said in the records from a position on
+mod tree; // the tree
 
+// Callers name these by the crate alone: in which file one stands is not their matter.
 pub use head::QueryFacts;
 pub use head::QueryRead;
 pub use lengths::body_length;

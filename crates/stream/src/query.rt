@@ -1,4 +1,6 @@
-// The query.
+// The query: refusals 3 and 4, or its numbers. First the state that the loop over the records
+// behind the head carries, then one such record by its kind, then all of them, then the query with
+// its head.
 ghost use mathlib.Core.Bool.{true};
 ghost use mathlib.Core.Path.{_≡_};
 ghost use Prim.Native.Nat.{_≤_};
@@ -12,11 +14,17 @@ use crate::head::QueryFacts;
 use crate::head::QueryRead;
 use crate::head::query_head;
 use crate::lengths::body_length;
+use crate::record::ACCEPTING_STATE;
 use crate::said::is_accepting;
 use crate::said::is_said;
 use paper::Refusal;
 
-// What the records behind the head up to a position make: so many rules.
+// The paper's limit: one more rule is refused 3. Accepting states need none, as each is below the
+// head's states and said once.
+const MOST_RULES: usize = 1024;
+
+// What the records behind the head up to a position make: so many rules. What they say is looked up
+// in the input where it is asked.
 struct QueryState {
     at: usize,
     rules: usize,
@@ -27,17 +35,20 @@ enum QueryStep {
     Refused(Refusal),
 }
 
-// A rule that fits: the 1,025th is refused 3, one whose kind and left side an earlier one has is refused 4.
-// These are its bytes up to the state that it names.
+// A rule that fits: one too many is refused 3, one whose kind and left side an earlier one has is
+// refused 4.
 fn rule_record(input: &[u8], facts: QueryFacts, state: QueryState) -> QueryStep
     requires { ⌜ AtLaterRecord (now input) facts state ⌝ }
     requires { ⌜ fits facts (recordAt (now input) (state .at)) ≡ true ⌝ }
     requires { ⌜ isRuleKind (getD (now input) (state .at) 0) ≡ true ⌝ }
     ensures { λ r. ⌜ saysQueryStep r ≡ queryStep (now (input .entry)) facts (state .at) ⌝ }
 {
-    if 1024 <= state.rules {
+    if MOST_RULES <= state.rules {
         return QueryStep::Refused(Refusal::Query);
     }
+    // The state that a rule names is the last byte of its body, so its bytes up to there are its
+    // kind and left side. The input is cut at the record: a rule is not held against itself or
+    // against later ones.
     let at = state.at;
     let named = at + body_length(input[at]);
     if is_said(&input[..at], facts.rules, &input[at..named]) {
@@ -61,12 +72,13 @@ fn state_record(input: &[u8], facts: QueryFacts, state: QueryState) -> QueryStep
         return QueryStep::Refused(Refusal::Twice);
     }
     QueryStep::Next(QueryState {
-        at: at + 1 + body_length(19),
+        at: at + 1 + body_length(ACCEPTING_STATE),
         rules: state.rules,
     })
 }
 
-// One more record behind the head. 3 before 4.
+// One more record behind the head. 3 before 4: whether it fits is asked before what the earlier
+// ones say.
 fn query_record(input: &[u8], facts: QueryFacts, state: QueryState) -> QueryStep
     requires { ⌜ AtLaterRecord (now input) facts state ⌝ }
     ensures { λ r. ⌜ saysQueryStep r ≡ queryStep (now (input .entry)) facts (state .at) ⌝ }
@@ -75,12 +87,15 @@ fn query_record(input: &[u8], facts: QueryFacts, state: QueryState) -> QueryStep
     if !record_fits(input, facts, at) {
         return QueryStep::Refused(Refusal::Query);
     }
-    if input[at] == 19 {
+    // What fits and is no accepting state is a rule of either kind.
+    if input[at] == ACCEPTING_STATE {
         return state_record(input, facts, state);
     }
     rule_record(input, facts, state)
 }
 
+// All records behind the head. There may be none: a query with no rule, or with no accepting state,
+// gives the empty set.
 fn later_records(input: &[u8], facts: QueryFacts) -> QueryRead
     requires { ⌜ facts .arity ≤ 4 ⌝ }
     requires { ⌜ facts .rules ≤ length (now input) ⌝ }
@@ -90,6 +105,8 @@ fn later_records(input: &[u8], facts: QueryFacts) -> QueryRead
         at: facts.rules,
         rules: 0,
     };
+    // Ends with the input, or by the first record at fault. A turn steps over one record that is
+    // whole, so never behind the end.
     while state.at < input.len() {
         match query_record(input, facts, state) {
             QueryStep::Next(next) => {
@@ -103,7 +120,7 @@ fn later_records(input: &[u8], facts: QueryFacts) -> QueryRead
     QueryRead::Query(facts)
 }
 
-// All of the query whose head stands at a position: refusals 3 and 4. The rules are read where they stand.
+// All of the query whose head stands at a position: refusals 3 and 4.
 pub fn read_query(input: &[u8], at: usize) -> QueryRead
     ensures { λ r. ⌜ saysQuery r ≡ queryReply (now (input .entry)) at ⌝ }
 {

@@ -1,12 +1,20 @@
-// The tree: refusals 1 and 2.
+// The tree: refusals 1 and 2, or its numbers. First what is answered, then the state that the loop
+// carries, then one record, then all.
 ghost use mathlib.Core.Path.{_≡_};
 ghost use Prim.Native.Nat.{max};
 ghost use Rattle.stream.specs.OneRecord.{isTreeAt, AtTreeRecord, treeStep, saysTreeStep};
 ghost use Rattle.stream.specs.Reading.{saysTree, treeReply};
 use crate::lengths::body_length;
+use crate::record::BRANCH;
+use crate::record::HIGHEST_LABEL;
+use crate::record::LEAF;
 use paper::Refusal;
 
-// Where the tree ends, how many nodes it has, and the most subtrees ever unjoined.
+// The paper's limit: one more tree kind is refused 2.
+const MOST_NODES: usize = 4095;
+
+// Where the tree ends, how many nodes it has, and the most subtrees ever unjoined, by which the
+// work of a build is measured.
 pub struct TreeFacts {
     pub end: usize,
     pub nodes: usize,
@@ -18,7 +26,8 @@ pub enum TreeRead {
     Refused(Refusal),
 }
 
-// What the tree records up to a position make: nodes, subtrees unjoined, and the most of these so far.
+// What the tree records up to a position make: nodes, subtrees unjoined, and the most of these so
+// far. How many there are is enough: which ones a branch joins decides no refusal.
 struct TreeState {
     at: usize,
     nodes: usize,
@@ -34,9 +43,10 @@ enum TreeStep {
 fn is_tree_record(input: &[u8], at: usize) -> bool
     ensures { λ r. ⌜ r ≡ isTreeAt (now (input .entry)) at ⌝ }
 {
+    // The tree may end with the input: that there is no query then is not the tree's fault.
     if at < input.len() {
         let kind = input[at];
-        return kind == 1 || kind == 2;
+        return kind == LEAF || kind == BRANCH;
     }
     false
 }
@@ -55,16 +65,18 @@ fn tree_record(input: &[u8], state: TreeState) -> TreeStep
     let at = state.at;
     let kind = input[at];
     let next = at + 1 + body_length(kind);
-    if 4095 <= state.nodes {
+    if MOST_NODES <= state.nodes {
         return TreeStep::Refused(Refusal::ManyNodes);
     }
+    // Cut. Behind this test the label can be read.
     if input.len() < next {
         return TreeStep::Refused(Refusal::Tree);
     }
-    if 63 < input[at + 1] {
+    if HIGHEST_LABEL < input[at + 1] {
         return TreeStep::Refused(Refusal::Tree);
     }
-    if kind == 1 {
+    // A leaf joins nothing, so no more is asked of it; and only with a leaf can the most grow.
+    if kind == LEAF {
         let unjoined = state.unjoined + 1;
         return TreeStep::Next(TreeState {
             at: next,
@@ -73,6 +85,7 @@ fn tree_record(input: &[u8], state: TreeState) -> TreeStep
             most: larger(state.most, unjoined),
         });
     }
+    // A branch makes one subtree of the last two.
     if state.unjoined < 2 {
         return TreeStep::Refused(Refusal::Tree);
     }
@@ -84,7 +97,7 @@ fn tree_record(input: &[u8], state: TreeState) -> TreeStep
     })
 }
 
-// All of the tree: refusals 1 and 2. With no node there is no subtree, so one subtree at the end is all that is asked there.
+// All of the tree: refusals 1 and 2.
 pub fn read_tree(input: &[u8]) -> TreeRead
     ensures { λ r. ⌜ saysTree r ≡ treeReply (now (input .entry)) ⌝ }
 {
@@ -94,6 +107,8 @@ pub fn read_tree(input: &[u8]) -> TreeRead
         unjoined: 0,
         most: 0,
     };
+    // Ends by the first kind that is not the tree's, with the input, or by the first record at
+    // fault: what comes later cannot change the refusal. A turn steps over one whole record.
     while is_tree_record(input, state.at) {
         match tree_record(input, state) {
             TreeStep::Next(next) => {
@@ -104,6 +119,7 @@ pub fn read_tree(input: &[u8]) -> TreeRead
             }
         }
     }
+    // With no node there is no subtree, so one subtree at the end is all that is asked here.
     if state.unjoined != 1 {
         return TreeRead::Refused(Refusal::Tree);
     }
