@@ -14,8 +14,8 @@ use Rattle.paper.specs.Stream.{StreamRecord, queryRecords, recordsOf, treeRecor
 use Rattle.paper.specs.Tree.{mostUnjoined}
 use Rattle.laws.proofs.ReadTree.{tree-read}
 use Rattle.laws.proofs.Replies.{Passes, answered, refused-inj, refused-not-answer, unless-append}
-use Rattle.stream.specs.declared.QueryFacts.{QueryFacts}
-use Rattle.stream.specs.declared.TreeFacts.{TreeFacts}
+use Rattle.stream.specs.declared.head.QueryFacts.{QueryFacts}
+use Rattle.stream.specs.declared.tree.TreeFacts.{TreeFacts}
 use Rattle.stream.specs.Reading.{queryFacts, queryReply, treeFacts, treeReply}
 use Rattle.stream.proofs.AfterTree.{facts-after-tree, reply-after-tree}
 use Rattle.stream.proofs.EachRecord.{refused-append}
