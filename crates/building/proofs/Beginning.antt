@@ -22,7 +22,7 @@ use Rattle.stream.proofs.EachRecord.{refused-append}
 use Rattle.building.specs.Frames.{width}
 use Rattle.building.specs.Coming.{Come, Coming}
 use Rattle.building.specs.Standing.{AtNode, InWork, State}
-use Rattle.building.specs.Whole.{Started}
+use Rattle.building.specs.Start.{Started}
 use Rattle.building.proofs.Frames.{frames-at-most, work-frames}
 use Rattle.building.proofs.Present.{most-nodes}
 use Rattle.building.proofs.ReadInput.{few-states, query-part-passes, small-arity, tree-passes}

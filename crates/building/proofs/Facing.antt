@@ -18,8 +18,9 @@ use Rattle.building.specs.Batch.{Record, Set}
 use Rattle.building.specs.Driving.{Ready, Driven}
 use Rattle.building.specs.Face.{Builds}
 use Rattle.building.specs.Standing.{State}
-use Rattle.building.specs.Whole.{Begins, Started, Ended, Finishes}
-use Rattle.building.specs.declared.whole.Begun.the-variants as BegunIs
+use Rattle.building.specs.Start.{Begins, Started}
+use Rattle.building.specs.Answer.{Ended, Finishes}
+use Rattle.building.specs.declared.start.Begun.the-variants as BegunIs
 use Rattle.building.proofs.Finishing.{built-answer, built-refused}
 
 -- ---- refused at once

@@ -24,7 +24,7 @@ pub mod BranchTurn
 pub mod RuleLoop
 pub mod Joining
 pub mod NextNode
-pub mod Roots
+pub mod UnitedRoots
 pub mod Stopping
 pub mod TurnLoop
 pub mod Beginning

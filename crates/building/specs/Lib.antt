@@ -10,6 +10,7 @@ pub mod Standing
 pub mod Coming
 pub mod Branches
 pub mod Roots
-pub mod Whole
+pub mod Start
+pub mod Answer
 pub mod Driving
 pub mod Face

@@ -1,23 +1,24 @@
 // Building: the slots of each node, by the rules, in the paper's order.
 ghost use Rattle.building.specs.Driving.{Ready, Driven};
 ghost use Rattle.building.specs.Face.{Builds};
+use crate::answer::finish;
+use crate::filling::step;
+use crate::start::Begun;
+use crate::start::begin;
 use crate::state::State;
-use crate::step::step;
-use crate::whole::Begun;
-use crate::whole::begin;
-use crate::whole::finish;
 use paper::Built;
 use paper::Record;
 
+mod answer;
 mod batch;
-mod ending;
+mod filling;
 mod frame;
 mod node;
+mod roots;
 mod rule;
 mod slot;
+mod start;
 mod state;
-mod step;
-mod whole;
 
 // The set of a stream, in the lent table.
 pub fn build(input: &[u8], work: &mut [u64], table: &mut [Record]) -> Built

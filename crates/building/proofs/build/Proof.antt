@@ -43,22 +43,23 @@ use Rattle.paper.proofs.Refusal.Laws as R′
 use Rattle.building.specs.Batch.{Record}
 use Rattle.building.specs.Standing.{State}
 use Rattle.building.specs.Driving.{Ready, Driven}
-use Rattle.building.specs.Whole.{Begun, Begins, Started, Ended, Finishes}
-use Rattle.building.specs.declared.whole.Begun.the-variants as BegunIs
+use Rattle.building.specs.Start.{Begun, Begins, Started}
+use Rattle.building.specs.Answer.{Ended, Finishes}
+use Rattle.building.specs.declared.start.Begun.the-variants as BegunIs
 use Rattle.building.specs.Face.{Builds}
 use Rattle.building.proofs.StateShape.{shape}
 use Rattle.building.proofs.Facing.{refused-face, ready, ending, whole-face, over-face}
 use Rattle.building.proofs.state.State as S
-use Rattle.building.proofs.whole.Begun as G
-use Rattle.building.proofs.whole.Begun.Laws as G′
-use Rattle.building.proofs.whole.begin as begin
-use Rattle.building.proofs.whole.begin.Symbol as begin-def
-use Rattle.building.proofs.whole.begin.Symbol.{name as #begin}
-use Rattle.building.proofs.whole.begin.Met as begin-thm
-use Rattle.building.proofs.whole.finish as finish′
-use Rattle.building.proofs.whole.finish.Symbol as finish-def
-use Rattle.building.proofs.whole.finish.Symbol.{name as #finish}
-use Rattle.building.proofs.whole.finish.Met as finish-thm
+use Rattle.building.proofs.start.Begun as G
+use Rattle.building.proofs.start.Begun.Laws as G′
+use Rattle.building.proofs.start.begin as begin
+use Rattle.building.proofs.start.begin.Symbol as begin-def
+use Rattle.building.proofs.start.begin.Symbol.{name as #begin}
+use Rattle.building.proofs.start.begin.Met as begin-thm
+use Rattle.building.proofs.answer.finish as finish′
+use Rattle.building.proofs.answer.finish.Symbol as finish-def
+use Rattle.building.proofs.answer.finish.Symbol.{name as #finish}
+use Rattle.building.proofs.answer.finish.Met as finish-thm
 use Rattle.building.proofs.drive as drive
 use Rattle.building.proofs.drive.Symbol as drive-def
 use Rattle.building.proofs.drive.Symbol.{name as #drive}
@@ -445,8 +446,8 @@ build-spec 𝓤 H 𝓜 𝓖 𝓡 =
     (walk 𝓤 H (𝓖 .A) (givenOf 𝓤 H 𝓜 𝓖) (𝓜 .mem) (𝓡 .run) (κs .0) (κs .1 .0) (κs .1 .1 .0) (qs .0) (qs .1 .0) (qs .1 .1 .0)
     (a .0 .ptr .0) (a .0 .ptr .1) (a .0 .name) (a .0 .now) (a .1 .0 .ptr .0) (a .1 .0 .ptr .1) (a .1 .0 .name) (a .1 .0 .now)
     (a .1 .1 .0 .ptr .0) (a .1 .1 .0 .ptr .1) (a .1 .1 .0 .name) (a .1 .1 .0 .now) (tablesOf 𝓤 H 𝓜 (tables 𝓤 H 𝓜 𝓡 code.env))
-    (cited 𝓤 H (Begin 𝓤 H (𝓖 .A) (givenOf 𝓤 H 𝓜 𝓖) (𝓜 .mem) (𝓡 .run)) 𝓜 𝓡 code.env #begin begin-def.routine code.calls-building·whole·begin (begin-thm.met 𝓤 H 𝓜 𝓖 𝓡))
+    (cited 𝓤 H (Begin 𝓤 H (𝓖 .A) (givenOf 𝓤 H 𝓜 𝓖) (𝓜 .mem) (𝓡 .run)) 𝓜 𝓡 code.env #begin begin-def.routine code.calls-building·start·begin (begin-thm.met 𝓤 H 𝓜 𝓖 𝓡))
     (cited 𝓤 H (Drive 𝓤 H (𝓖 .A) (givenOf 𝓤 H 𝓜 𝓖) (𝓜 .mem) (𝓡 .run)) 𝓜 𝓡 code.env #drive drive-def.routine code.calls-building·drive (drive-thm.met 𝓤 H 𝓜 𝓖 𝓡))
-    (cited 𝓤 H (Finish 𝓤 H (𝓖 .A) (givenOf 𝓤 H 𝓜 𝓖) (𝓜 .mem) (𝓡 .run)) 𝓜 𝓡 code.env #finish finish-def.routine code.calls-building·whole·finish (finish-thm.met 𝓤 H 𝓜 𝓖 𝓡))
+    (cited 𝓤 H (Finish 𝓤 H (𝓖 .A) (givenOf 𝓤 H 𝓜 𝓖) (𝓜 .mem) (𝓡 .run)) 𝓜 𝓡 code.env #finish finish-def.routine code.calls-building·answer·finish (finish-thm.met 𝓤 H 𝓜 𝓖 𝓡))
     (cited 𝓤 H (Blank 𝓤 H (𝓖 .A) (givenOf 𝓤 H 𝓜 𝓖) (𝓜 .mem) (𝓡 .run)) 𝓜 𝓡 code.env #table·blank blank-def.routine code.calls-table·blank (blank-thm.met 𝓤 H 𝓜 𝓖 𝓡))
     (are .0 .0 .1) (are .1 .0 .0 .1) (are .1 .1 .0 .0 .1)))

@@ -1,16 +1,12 @@
-// The beginning and the end of a build.
+// The start of a build: the tree and the query are read, the work is measured, and the building stands at its first node.
 ghost use mathlib.Core.Path.{_≡_};
 ghost use Prim.Native.Nat.{min};
 ghost use Rattle.paper.specs.Refusals.{answer};
 ghost use Rattle.stream.specs.Reading.{treeReply, queryReply};
-ghost use Rattle.building.specs.Whole.{Begins, Ended, Finishes};
-use crate::frame::clear;
-use crate::frame::flags;
+ghost use Rattle.building.specs.Start.{Begins};
 use crate::frame::frame_width;
 use crate::node::start_node;
 use crate::state::State;
-use paper::Built;
-use paper::Head;
 use paper::Refusal;
 use stream::QueryFacts;
 use stream::QueryRead;
@@ -18,7 +14,6 @@ use stream::TreeFacts;
 use stream::TreeRead;
 use stream::read_query;
 use stream::read_tree;
-use table::set_of;
 
 // The building stands at its first node, or is refused with 1 to 5.
 pub(crate) enum Begun {
@@ -79,24 +74,4 @@ pub(crate) fn begin(input: &[u8], work: &mut [u64], entries: usize) -> Begun
             QueryRead::Query(query) => start(input, &mut *work, entries, tree, query),
         },
     }
-}
-
-// The answer of a build that has stopped, or its refusal with 6. The work is cleared.
-pub(crate) fn finish(t: State, work: &mut [u64]) -> Built
-    requires { ⌜ Ended t (now work) ⌝ }
-    ensures { λ r. ⌜ Finishes t (now (work .entry)) r (now (work .exit)) ⌝ }
-{
-    clear(&mut *work, 0, t.asked);
-    if t.over {
-        return Built::Refused(Refusal::ShortTable);
-    }
-    let places = flags(t.arity) - 1;
-    let set = set_of(t.set as u16);
-    Built::Set(Head {
-        nodes: t.nodes as u16,
-        arity: t.arity as u16,
-        open_places: places as u16,
-        used: (t.from + t.count) as u16,
-        set: set,
-    })
 }

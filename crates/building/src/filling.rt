@@ -2,10 +2,10 @@
 ghost use Prim.Native.Nat.{_≤_};
 ghost use lib.ListN.{length};
 ghost use Rattle.building.specs.Standing.{IsStanding, IsFilling, Turned, Fills};
-use crate::ending::roots;
 use crate::node::branch_rules;
 use crate::node::leaf_rules;
 use crate::node::next_node;
+use crate::roots::roots;
 use crate::state::State;
 
 // Rules of the present node, a leaf or a branch, or the next node where no rule is left, or the end where no node is left.

@@ -1,4 +1,4 @@
--- `step::step` takes turns with a new batch. The loop's invariant: the building stands, or has stopped, with what is in the batch.
+-- `filling::step` takes turns with a new batch. The loop's invariant: the building stands, or has stopped, with what is in the batch.
 use mathlib.Core.Bool.{false}
 use mathlib.Core.List.{List}
 use mathlib.Core.Logic.{_⊎_, inl, inr}
@@ -11,8 +11,8 @@ use Rattle.building.specs.Batch.{Record}
 use Rattle.building.specs.Standing.{Filling, Turned, turnsLeft}
 use Rattle.building.specs.States.{emptied}
 use Rattle.building.proofs.TurnLoop.{Filled, emptied-filling, emptied-stepped, filled-ends, filled-filling, filled-onward, filled-starts}
-use Rattle.building.proofs.step.step.Statement.{statement}
-use Rattle.building.proofs.step.step.Tie as tie
+use Rattle.building.proofs.filling.step.Statement.{statement}
+use Rattle.building.proofs.filling.step.Tie as tie
 
 abbrev Inv-loop : tie.InvT-loop
 Inv-loop input work₀ batch₀ s₀ work batch s =

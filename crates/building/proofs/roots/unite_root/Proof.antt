@@ -1,12 +1,12 @@
--- `ending::unite_root` unites the slot of one more state, if that is accepting.
+-- `roots::unite_root` unites the slot of one more state, if that is accepting.
 use Prim.Native.Nat.{_+_, _-_, _<_, _≤_}
 use native.Mathlib.Omega.{arith}
 use borrow.Author.Needs.{needs}
 use lib.ListN.{length}
 use Rattle.building.specs.Slots.{slotAt}
-use Rattle.building.proofs.Roots.{RootReady, next-skipped, next-united, root-ready}
-use Rattle.building.proofs.ending.unite_root.Statement.{statement}
-use Rattle.building.proofs.ending.unite_root.Tie as tie
+use Rattle.building.proofs.UnitedRoots.{RootReady, next-skipped, next-united, root-ready}
+use Rattle.building.proofs.roots.unite_root.Statement.{statement}
+use Rattle.building.proofs.roots.unite_root.Tie as tie
 
 -- what is known from the start
 ready : (c : tie.Start) → RootReady (c .args .input .now) (c .args .t) (c .args .work .now) (c .args .state)

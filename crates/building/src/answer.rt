@@ -1,0 +1,29 @@
+// The answer of a build that has stopped: the head of its set, or its refusal.
+ghost use Rattle.building.specs.Answer.{Ended, Finishes};
+use crate::frame::clear;
+use crate::frame::flags;
+use crate::state::State;
+use paper::Built;
+use paper::Head;
+use paper::Refusal;
+use table::set_of;
+
+// The answer of a build that has stopped, or its refusal with 6. The work is cleared.
+pub(crate) fn finish(t: State, work: &mut [u64]) -> Built
+    requires { ⌜ Ended t (now work) ⌝ }
+    ensures { λ r. ⌜ Finishes t (now (work .entry)) r (now (work .exit)) ⌝ }
+{
+    clear(&mut *work, 0, t.asked);
+    if t.over {
+        return Built::Refused(Refusal::ShortTable);
+    }
+    let places = flags(t.arity) - 1;
+    let set = set_of(t.set as u16);
+    Built::Set(Head {
+        nodes: t.nodes as u16,
+        arity: t.arity as u16,
+        open_places: places as u16,
+        used: (t.from + t.count) as u16,
+        set: set,
+    })
+}
