@@ -1,4 +1,4 @@
--- One rule of a branch: where its rows stand, that there is room for it, and where the building then stands.
+-- One rule of a branch: where its shelves stand, that there is room for it, and where the building then stands.
 use mathlib.Core.List.{List, _++_}
 use mathlib.Core.Logic.{inr, ⊎-elim}
 use mathlib.Core.Path.{_∙_, _≡_, ap, refl, subst, subst₃, sym}
@@ -19,7 +19,7 @@ use Rattle.building.specs.Standing.{AtRule, Standing, State, noSlots}
 use Rattle.building.proofs.Frames.{flags-at-most, frame-down}
 use Rattle.building.proofs.Limits.{more-records}
 use Rattle.building.proofs.NodeRules.{BranchRuleAt, branch-first, branch-rule-at, fewer-left, on-to-next}
-use Rattle.building.proofs.OwnRow.{Onward, below-top, in-frame, low-row, own-row, row-rest, row-standing}
+use Rattle.building.proofs.OwnShelf.{Onward, below-top, in-frame, low-shelf, own-shelf, shelf-rest, shelf-standing}
 use Rattle.building.proofs.Present.{NodeReady, kind-here, label-here, node-ready, tree-kind-here, two-frames}
 
 module _ (input : List ℕ) (t : State) (work : List ℕ) (made : List Record) (s : Standing input t work made) (h : t .rule < length input)
@@ -64,9 +64,9 @@ module _ (input : List ℕ) (t : State) (work : List ℕ) (made : List Record) (
     left-before = omega (arith, below-top t (t .top - 2) (getD input (t .rule + 3) 0) (omega (arith, two-below)) (branch-bytes .left));
     right-before = omega (arith, below-top t (t .top - 1) (getD input (t .rule + 4) 0) (omega (arith, two-below)) (branch-bytes .right));
     within = omega (arith, in-frame t (t .top) (getD input (t .rule + 5) 0) (branch-bytes .state), ready .frame);
-    left-low = low-row input t work made s (t .top - 2) (getD input (t .rule + 3) 0) (omega arith) (branch-bytes .left);
-    right-low = low-row input t work made s (t .top - 1) (getD input (t .rule + 4) 0) (omega arith) (branch-bytes .right);
-    low = low-row input t work made s (t .top) (getD input (t .rule + 5) 0) (omega arith) (branch-bytes .state);
+    left-low = low-shelf input t work made s (t .top - 2) (getD input (t .rule + 3) 0) (omega arith) (branch-bytes .left);
+    right-low = low-shelf input t work made s (t .top - 1) (getD input (t .rule + 4) 0) (omega arith) (branch-bytes .right);
+    low = low-shelf input t work made s (t .top) (getD input (t .rule + 5) 0) (omega arith) (branch-bytes .state);
     left-marked = lefts-frame .marked (getD input (t .rule + 3) 0) (branch-bytes .left);
     right-marked = rights-frame .marked (getD input (t .rule + 4) 0) (branch-bytes .right);
   }
@@ -134,7 +134,7 @@ module _ (input : List ℕ) (t : State) (work batch : List ℕ) (base : List Rec
         (ap (λ x. 2 ^ x) (s .constants .arity))
         (λ b hb. lefts-frame input t work made s h branch .sets p b (bytes .left) hb)
         (λ b hb. rights-frame input t work made s h branch .sets q b (bytes .right) hb)
-        (own-row input t work made s r (bytes .state))
+        (own-shelf input t work made s r (bytes .state))
 
     step : through (branchStep recordSets (t .node) lefts rights) (made, s .slots)
         (splitsBy (queryIn input .arity) (number (s .node .here) 0)
@@ -156,12 +156,12 @@ module _ (input : List ℕ) (t : State) (work batch : List ℕ) (base : List Rec
         let used : length (base ++ recordsIn count batch′) ≡ t .from + count = omega (arith, more-records base count batch′) in
         record {
           standing =
-              row-standing input t work made s state (bytes .state) (base ++ recordsIn count batch′) (z .1) used long (e .row) (done .0 .row) (done .1)
+              shelf-standing input t work made s state (bytes .state) (base ++ recordsIn count batch′) (z .1) used long (e .shelf) (done .0 .shelf) (done .1)
               onward;
           rest =
-              row-rest input t work made s state (bytes .state) (base ++ recordsIn count batch′) (z .1) used long (e .row) (done .0 .row) (done .1)
+              shelf-rest input t work made s state (bytes .state) (base ++ recordsIn count batch′) (z .1) used long (e .shelf) (done .0 .shelf) (done .1)
               onward;
-          few = e .row .few;
+          few = e .shelf .few;
           fewer =
               fewer-left input t (s .constants) (s .node .here) (s .node .earlier) (s .node .stack) (made, s .slots) (s .rule) h next found;
         }

@@ -12,20 +12,20 @@ use Rattle.paper.specs.Refusals.{queryIn}
 use Rattle.paper.specs.Stream.{number, recordsOf}
 use Rattle.stream.specs.Positions.{NextRule, after, recordAt}
 use Rattle.building.specs.Batch.{Record, Set, recordsIn}
-use Rattle.building.specs.Branches.{rowFrom}
-use Rattle.building.specs.Rules.{Leaves, OneRow}
-use Rattle.building.specs.Slots.{rowAt}
+use Rattle.building.specs.Branches.{shelfFrom}
+use Rattle.building.specs.Rules.{Leaves, OneShelf}
+use Rattle.building.specs.Slots.{shelfAt}
 use Rattle.building.specs.Standing.{AtRule, Standing, State}
 use Rattle.building.proofs.Frames.{flags-at-most, slot-below}
 use Rattle.building.proofs.Limits.{more-records}
 use Rattle.building.proofs.NodeRules.{LeafRuleAt, fewer-left, leaf-first, leaf-rule-at, on-to-next}
-use Rattle.building.proofs.OwnRow.{Onward, low-row, own-row, row-rest, row-standing}
+use Rattle.building.proofs.OwnShelf.{Onward, low-shelf, own-shelf, shelf-rest, shelf-standing}
 use Rattle.building.proofs.Present.{NodeReady, kind-here, label-here, node-ready}
-use Rattle.building.proofs.Running.{row-put, slot-row}
+use Rattle.building.proofs.Running.{shelf-put, slot-shelf}
 
--- where the row of a leaf's rule stands
-abbrev pub leafRow : List ℕ → State → ℕ
-leafRow input t = rowFrom t (t .top) (getD input (t .rule + 3) 0)
+-- where the shelf of a leaf's rule stands
+abbrev pub leafShelf : List ℕ → State → ℕ
+leafShelf input t = shelfFrom t (t .top) (getD input (t .rule + 3) 0)
 
 -- what the code asks of the numbers
 pub record LeafReady (input : List ℕ) (t : State) (work : List ℕ) : Type 0 where
@@ -33,7 +33,7 @@ pub record LeafReady (input : List ℕ) (t : State) (work : List ℕ) : Type 0 w
   pub rule : t .rule + 4 ≤ length input
   pub flag : getD input (t .rule + 2) 0 < 16
   pub state : getD input (t .rule + 3) 0 < 16
-  pub slot : leafRow input t + getD input (t .rule + 2) 0 < length work
+  pub slot : leafShelf input t + getD input (t .rule + 2) 0 < length work
 
 module _ (input : List ℕ) (t : State) (work : List ℕ) (made : List Record) (s : Standing input t work made) (h : t .rule < length input)
     (leaf : getD input (t .at) 0 ≡ 1) where
@@ -71,7 +71,7 @@ module _ (input : List ℕ) (t : State) (work batch : List ℕ) (base : List Rec
   state = getD input (t .rule + 3) 0
 
   abbrev slots : Slots Set
-  slots = put (s .slots) (getD input (t .rule + 3) 0) (getD input (t .rule + 2) 0) (rowAt work′ (leafRow input t) (getD input (t .rule + 2) 0))
+  slots = put (s .slots) (getD input (t .rule + 3) 0) (getD input (t .rule + 2) 0) (shelfAt work′ (leafShelf input t) (getD input (t .rule + 2) 0))
 
   kind : s .node .here .kind ≡ 1
   kind = leaf-kind input t work made s h leaf
@@ -79,7 +79,7 @@ module _ (input : List ℕ) (t : State) (work batch : List ℕ) (base : List Rec
   bytes : LeafRuleAt input t (number (s .node .here) 0)
   bytes = leaf-bytes input t work made s h leaf
 
-  module _ (e : Leaves (t .node) (getD input (t .rule + 2) 0) (leafRow input t) (t .from) (t .count) batch work count batch′ work′)
+  module _ (e : Leaves (t .node) (getD input (t .rule + 2) 0) (leafShelf input t) (t .from) (t .count) batch work count batch′ work′)
       (search : NextRule input (t .rule + 4) 17 (getD input (t .at + 1) 0) next) where
     found : NextRule input (after input (t .rule)) (s .node .here .kind + 16) (number (s .node .here) 0) next
     found =
@@ -101,27 +101,27 @@ module _ (input : List ℕ) (t : State) (work batch : List ℕ) (base : List Rec
         (leaf-first (queryIn input) (s .node .here) (t .node) (s .node .stack) kind (recordAt input (t .rule))
         (recordsOf (drop (after input (t .rule)) input)) (bytes .rule) (made, s .slots) (base ++ recordsIn count batch′, slots) step)
 
-    one-row : OneRow (leafRow input t) (2 ^ t .arity) (t .from) 1 (t .count) work count work′
-    one-row =
-        slot-row (e .slot) (2 ^ t .arity) (bytes .flag) (low-row input t work made s (t .top) state (omega arith) (bytes .state))
+    one-shelf : OneShelf (leafShelf input t) (2 ^ t .arity) (t .from) 1 (t .count) work count work′
+    one-shelf =
+        slot-shelf (e .slot) (2 ^ t .arity) (bytes .flag) (low-shelf input t work made s (t .top) state (omega arith) (bytes .state))
 
     others : (q b : ℕ) → (q ≡ state → ⊥) → slots q b ≡ s .slots q b
     others q b apart = rw (ne-eqb state q (λ same. apart (sym same)))
 
     leaf-stepped : Onward input t work base count next work′ batch′
     leaf-stepped =
-        let row = row-put (e .slot) (2 ^ t .arity) state (s .slots) (own-row input t work made s state (bytes .state)) in
+        let shelf = shelf-put (e .slot) (2 ^ t .arity) state (s .slots) (own-shelf input t work made s state (bytes .state)) in
         let used : length (base ++ recordsIn count batch′) ≡ t .from + count = omega (arith, more-records base count batch′) in
         record {
-          standing = row-standing input t work made s state (bytes .state) (base ++ recordsIn count batch′) slots used long one-row row others onward;
-          rest = row-rest input t work made s state (bytes .state) (base ++ recordsIn count batch′) slots used long one-row row others onward;
+          standing = shelf-standing input t work made s state (bytes .state) (base ++ recordsIn count batch′) slots used long one-shelf shelf others onward;
+          rest = shelf-rest input t work made s state (bytes .state) (base ++ recordsIn count batch′) slots used long one-shelf shelf others onward;
           few = omega (arith, e .slot .few);
           fewer =
               fewer-left input t (s .constants) (s .node .here) (s .node .earlier) (s .node .stack) (made, s .slots) (s .rule) h next found;
         }
 
   -- of the numbers that the code has
-  pub leaf-onward : {to : ℕ} → to ≡ leafRow input t
+  pub leaf-onward : {to : ℕ} → to ≡ leafShelf input t
       → Leaves (t .node) (getD input (t .rule + 2) 0) to (t .from) (t .count) batch work count batch′ work′
       → NextRule input (t .rule + 4) 17 (getD input (t .at + 1) 0) next → Onward input t work base count next work′ batch′
   leaf-onward same e =

@@ -18,7 +18,7 @@ pub mod Present
 pub mod NodeRules
 pub mod NodeEnd
 pub mod Limits
-pub mod OwnRow
+pub mod OwnShelf
 pub mod LeafTurn
 pub mod BranchTurn
 pub mod RuleLoop

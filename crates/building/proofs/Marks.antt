@@ -1,4 +1,4 @@
--- The marks of a row as the binary digits of a number. First one mark of a number; then the first mark and the others, in one step; then
+-- The marks of a shelf as the binary digits of a number. First one mark of a number; then the first mark and the others, in one step; then
 -- marks taken one after the other; last a mark that is added. The idea: the lowest digit is the first mark, or the first mark stands one
 -- up from that of the half.
 use mathlib.Core.Bool.{Bool, false, true}
@@ -107,7 +107,7 @@ firstMark marks = trailingZeros 64 marks
 abbrev pub laterMarks : ℕ → ℕ
 laterMarks marks = bitAnd marks (marks - 1)
 
--- of the marks of a row of so many flags, those before n are taken
+-- of the marks of a shelf of so many flags, those before n are taken
 pub record Rest (size all n marks : ℕ) : Type 0 where
   pub small : size ≤ 16
   pub far : n ≤ size

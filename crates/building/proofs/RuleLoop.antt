@@ -12,7 +12,7 @@ use Rattle.building.specs.Batch.{Record, recordsIn}
 use Rattle.building.specs.Standing.{Filling, Standing, State, Stepped}
 use Rattle.building.specs.States.{counted, more}
 use Rattle.building.proofs.Limits.{rules-counted}
-use Rattle.building.proofs.OwnRow.{Onward}
+use Rattle.building.proofs.OwnShelf.{Onward}
 
 -- the search for the next rule goes on behind the present one, wherever that is
 pub searched-from : {input : List ℕ} {from behind kind label next : ℕ} → from ≡ behind → NextRule input from kind label next

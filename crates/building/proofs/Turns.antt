@@ -16,7 +16,7 @@ use lib.Pow.{pow-mono, pow-pos}
 use Rattle.paper.specs.Lists.{each, upTo}
 use Rattle.laws.proofs.Bound.{few-beside}
 use Rattle.building.specs.Batch.{recordsIn}
-use Rattle.building.specs.Rules.{Branch, Branches, FlagsOf, OneRow, Room, Runs, Stands, Unites, flagsAt, pairAt, splitsRun}
+use Rattle.building.specs.Rules.{Branch, Branches, FlagsOf, OneShelf, Room, Runs, Stands, Unites, flagsAt, pairAt, splitsRun}
 use Rattle.building.specs.Slots.{marksAt, slotAt}
 use Rattle.building.proofs.Marks.{Rest, first-below, first-onward, firstMark, laterMarks, none-between, rest-ends, rest-onward, rest-starts}
 use Rattle.building.proofs.Running.{each-le, each-upTo, flags-apart, flags-none, flags-shared, low-stays, marked-stays, none-run, one-run}
@@ -49,7 +49,7 @@ pub some-flag : (size : ℕ) → FlagsOf size → 0 < size
 some-flag size f = omega (arith, f .powers, pow-pos (f .arity))
 
 room-stays : {rule : Branch} {most k : ℕ} {B W : List ℕ} {count : ℕ} {B′ W′ : List ℕ} → length B′ ≡ length B → length W′ ≡ length W
-    → OneRow (rule .to) (rule .size) (rule .used) most k W count W′ → Room rule k B W → Room rule count B′ W′
+    → OneShelf (rule .to) (rule .size) (rule .used) most k W count W′ → Room rule k B W → Room rule count B′ W′
 room-stays {rule} eb ew o r =
     record {
       flags = r .flags;
@@ -81,10 +81,10 @@ module _ {rule : Branch} {k : ℕ} {B W : List ℕ} {b₁ n count : ℕ} {B′ W
   open RightTurn s using (batch-kept, work-kept, room, left-flag, left-apart, right-flag, done)
 
   here : Room rule count B′ W′
-  here = room-stays batch-kept work-kept (done .row) room
+  here = room-stays batch-kept work-kept (done .shelf) room
 
   same-left : slotAt W′ (rule .left + b₁) ≡ slotAt W (rule .left + b₁)
-  same-left = same-set (done .row) (rule .left) (room .left-before) b₁ left-flag
+  same-left = same-set (done .shelf) (rule .left) (room .left-before) b₁ left-flag
 
   -- three flags that share no bit are together a flag
   flag-below : bitAnd (rule .own + b₁) n ≡ 0 → rule .own + b₁ + n < rule .size
@@ -103,7 +103,7 @@ module _ {rule : Branch} {k : ℕ} {B W : List ℕ} {b₁ n count : ℕ} {B′ W
       let f : count + 4 ≤ 648 =
       omega (
         arith,
-        done .row .few,
+        done .shelf .few,
         ap length (flags-apart (rule .own) b₁ n left-apart e),
         length-append (flagsAt (rule .own) n b₁) ((b₁, n) ∷ []),
         each-le (pairAt (rule .own) b₁) (n + 1) (rule .size) (omega (arith, right-flag)),
@@ -141,7 +141,7 @@ module _ {rule : Branch} {k : ℕ} {B W : List ℕ} {b₁ n count : ℕ} {B′ W
       (one-run count B′ W′ (here .low) b₁ n (slotAt W (rule .left + b₁)) (slotAt W′ (rule .right + n)) c B″ W″ left-flag right-flag (flag-below e)
       same-left refl nl nr u)
 
--- ---- the loop over b₂: of the right row's marks some are left, and the flags before them are done
+-- ---- the loop over b₂: of the right shelf's marks some are left, and the flags before them are done
 pub record RightLoop (rule : Branch) (k : ℕ) (B W : List ℕ) (b₁ marks count : ℕ) (B′ W′ : List ℕ) : Type 0 where
   pub batch-kept : length B′ ≡ length B
   pub work-kept : length W′ ≡ length W
@@ -181,7 +181,7 @@ module _ {rule : Branch} {k : ℕ} {B W : List ℕ} (room : Room rule k B W) {b�
         go : (c : Bool) → eqb (bitAnd (rule .own + b₁) n) 0 ≡ c → Runs (flagsAt (rule .own) (n + 1) b₁) rule k B W count B′ W′
         go true e =
             with-empty (turn-at n h done) (eqb-true (bitAnd (rule .own + b₁) n) 0 e)
-            (same-set (done .row) (rule .right) (room .right-before) n h ∙ z)
+            (same-set (done .shelf) (rule .right) (room .right-before) n h ∙ z)
         go false e = with-shared (turn-at n h done) (eqb-false (bitAnd (rule .own + b₁) n) 0 e)
 
     past-empty : (n m : ℕ) → n ≤ m → m ≤ rule .size → ((b : ℕ) → n ≤ b → b < m → slotAt W (rule .right + b) ≡ 0)
@@ -229,14 +229,14 @@ module _ {rule : Branch} {k : ℕ} {B W : List ℕ} {n count : ℕ} {B′ W′ :
 
   -- the splits beside one left flag have room
   pub beside-room : Room rule count B′ W′
-  beside-room = room-stays batch-kept work-kept (done .row) room
+  beside-room = room-stays batch-kept work-kept (done .shelf) room
 
   pub beside-few : k ≤ 324 → count + 4 * length (flagsAt (rule .own) (rule .size) n) ≤ 648
   beside-few few =
       let flags = flagsAt (rule .own) (rule .size) in
       omega (
         arith,
-        done .row .few,
+        done .shelf .few,
         ap length (each-upTo flags n),
         length-append (each (upTo n) flags) (flags n),
         each-le flags (n + 1) (rule .size) (omega (arith, left-flag)),
@@ -261,7 +261,7 @@ module _ {rule : Branch} {k : ℕ} {B W : List ℕ} {n count : ℕ} {B′ W′ :
   with-none z =
       with-left count B′ W′
       (skipped-left count B′ W′ (beside-room .low) n (rule .size) left-flag
-      (same-set (done .row) (rule .left) (room .left-before) n left-flag ∙ z))
+      (same-set (done .shelf) (rule .left) (room .left-before) n left-flag ∙ z))
 
 -- ---- the loop over b₁, likewise
 pub record LeftLoop (rule : Branch) (k : ℕ) (B W : List ℕ) (marks count : ℕ) (B′ W′ : List ℕ) : Type 0 where
@@ -301,16 +301,16 @@ module _ {rule : Branch} {k : ℕ} {B W : List ℕ} (room : Room rule k B W) whe
         branches = λ base arity label p q t lefts rights slots e f rl rr rs. rw (eq-eqb label label refl) (
           subst (λ n. Stands base t rule (splitsRun rule p q t lefts rights (each (upTo n) (flagsAt (rule .own) n)) (base ++ recordsIn k B, slots))
               count B′ W′) f
-              (m .runs base p q t lefts rights (base ++ recordsIn k B, slots) e rl rr (record { table = refl; row = rs })),
+              (m .runs base p q t lefts rights (base ++ recordsIn k B, slots) e rl rr (record { table = refl; shelf = rs })),
           λ s b h. run-others rule p q t lefts rights s b h (each (upTo (2 ^ arity)) (flagsAt (rule .own) (2 ^ arity))) (base ++ recordsIn k B, slots),
         );
-        row = record {
-          more = m .row .more;
-          few = omega (arith, m .row .few, few-flags (rule .size) (rule .own) (room .flags) (room .own-flag));
-          below = m .row .below;
-          above = m .row .above;
-          low = m .row .low;
-          marked = m .row .marked;
+        shelf = record {
+          more = m .shelf .more;
+          few = omega (arith, m .shelf .few, few-flags (rule .size) (rule .own) (room .flags) (room .own-flag));
+          below = m .shelf .below;
+          above = m .shelf .above;
+          low = m .shelf .low;
+          marked = m .shelf .marked;
         };
       }
 

@@ -1,4 +1,4 @@
-// The frames in the lent work: one for each unjoined subtree, the oldest one first, and one for the present node. A frame has a row of
+// The frames in the lent work: one for each unjoined subtree, the oldest one first, and one for the present node. A frame has a shelf of
 // slots for each state, with a number for each flag.
 ghost use mathlib.Core.Path.{_≡_};
 ghost use Prim.Native.Nat.{_+_, _*_, _^_, _≤_, _<_};
@@ -31,8 +31,8 @@ pub(crate) fn frame_at(arity: usize, states: usize, frame: usize) -> usize
     frame * frame_width(arity, states)
 }
 
-// Where the row of a state starts in a frame.
-pub(crate) fn row_at(arity: usize, states: usize, frame: usize, state: usize) -> usize
+// Where the shelf of a state starts in a frame.
+pub(crate) fn shelf_at(arity: usize, states: usize, frame: usize, state: usize) -> usize
     requires { ⌜ (arity ≤ 4) × (states ≤ 16) ⌝ }
     requires { ⌜ (frame ≤ 4096) × (state ≤ 16) ⌝ }
     ensures { λ r. ⌜ r ≡ frame * width arity states + state * 2 ^ arity ⌝ }

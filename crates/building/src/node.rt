@@ -11,7 +11,7 @@ use crate::frame::copy_down;
 use crate::frame::flags;
 use crate::frame::frame_at;
 use crate::frame::frame_width;
-use crate::frame::row_at;
+use crate::frame::shelf_at;
 use crate::rule::Branch;
 use crate::rule::branch_rule;
 use crate::rule::leaf_rule;
@@ -33,7 +33,7 @@ pub(crate) fn leaf_rules(t: State, input: &[u8], work: &mut [u64], batch: &mut [
     let mut rule = t.rule;
     while rule < input.len() && count <= 324 {
         let flag = input[rule + 2] as usize;
-        let to = row_at(t.arity, t.states, t.top, input[rule + 3] as usize);
+        let to = shelf_at(t.arity, t.states, t.top, input[rule + 3] as usize);
         count = leaf_rule(
             &mut *batch,
             &mut *work,
@@ -48,15 +48,15 @@ pub(crate) fn leaf_rules(t: State, input: &[u8], work: &mut [u64], batch: &mut [
     count_records(t, count, rule)
 }
 
-// A rule of a branch, and its rows: of the left state in the older child's frame, the second below the node's, of the right one in the
+// A rule of a branch, and its shelves: of the left state in the older child's frame, the second below the node's, of the right one in the
 // last child's, the first below, and of its own in the node's frame.
 fn branch_at(t: State, input: &[u8], rule: usize) -> Branch
     requires { ⌜ BranchReady (now input) t rule ⌝ }
     ensures { λ r. ⌜ r ≡ branchOf (now (input .entry)) t rule ⌝ }
 {
-    let left = row_at(t.arity, t.states, t.top - 2, input[rule + 3] as usize);
-    let right = row_at(t.arity, t.states, t.top - 1, input[rule + 4] as usize);
-    let to = row_at(t.arity, t.states, t.top, input[rule + 5] as usize);
+    let left = shelf_at(t.arity, t.states, t.top - 2, input[rule + 3] as usize);
+    let right = shelf_at(t.arity, t.states, t.top - 1, input[rule + 4] as usize);
+    let to = shelf_at(t.arity, t.states, t.top, input[rule + 5] as usize);
     Branch {
         used: t.from,
         node: t.node,

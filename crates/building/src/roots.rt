@@ -6,7 +6,7 @@ ghost use Rattle.building.specs.Standing.{IsStanding, IsFilling, Fills};
 use crate::batch::Made;
 use crate::batch::union;
 use crate::frame::flags;
-use crate::frame::row_at;
+use crate::frame::shelf_at;
 use crate::slot::SETS;
 use crate::state::State;
 use crate::state::count_records;
@@ -30,7 +30,7 @@ fn unite_root(
         return made;
     }
     let places = flags(t.arity) - 1;
-    let at = row_at(t.arity, t.states, t.top, state) + places;
+    let at = shelf_at(t.arity, t.states, t.top, state) + places;
     union(
         &mut *batch,
         made.count,

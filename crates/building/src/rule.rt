@@ -1,5 +1,5 @@
 // One rule at one node: the records that it makes go into a batch, the sets into the slots of the rule's state. The slots of a state
-// are a row of numbers in work, one for each flag.
+// are a shelf of numbers in work, one for each flag.
 ghost use mathlib.Core.Path.{_≡_};
 ghost use Prim.Native.Nat.{_+_, _*_, _≤_, _<_};
 ghost use lib.Bits.{bitAnd};
@@ -16,7 +16,7 @@ use crate::slot::SETS;
 use crate::slot::put_set;
 
 // A branch rule at a node: the records in the table, the node, how many flags there are, the rule's own flag, and where in work the
-// rows of its left state, its right state and the state that it names start.
+// shelves of its left state, its right state and the state that it names start.
 pub(crate) struct Branch {
     pub(crate) used: usize,
     pub(crate) node: usize,
@@ -102,7 +102,7 @@ fn split(
 }
 
 // The splits of a branch rule whose left flag is b1, unless the left child's slot is empty: for each b2 ascending that shares no bit
-// and at which the right child's slot is not empty. Such a b2 is marked: the marks of the right row are taken one by one, the first first.
+// and at which the right child's slot is not empty. Such a b2 is marked: the marks of the right shelf are taken one by one, the first first.
 fn beside(batch: &mut [u16], work: &mut [u64], k: usize, rule: Branch, b1: usize) -> usize
     requires { ⌜ Room rule k (now batch) (now work) ⌝ }
     requires { ⌜ (b1 < rule .size) × (bitAnd (rule .own) b1 ≡ 0) ⌝ }
@@ -132,7 +132,7 @@ fn beside(batch: &mut [u16], work: &mut [u64], k: usize, rule: Branch, b1: usize
 }
 
 // A branch rule that matches: its splits, for each b1 ascending that shares no bit with the own flag and then for each such b2. The
-// marks of the left row are taken likewise.
+// marks of the left shelf are taken likewise.
 pub(crate) fn branch_rule(batch: &mut [u16], work: &mut [u64], k: usize, rule: Branch) -> usize
     requires { ⌜ Room rule k (now batch) (now work) × (k ≤ 324) ⌝ }
     ensures { λ r. ⌜ Branches rule k (now (batch .entry)) (now (work .entry)) r (now (batch .exit)) (now (work .exit)) ⌝ }

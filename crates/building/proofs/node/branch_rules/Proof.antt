@@ -10,7 +10,7 @@ use Rattle.building.specs.Batch.{Record, recordsIn}
 use Rattle.building.specs.Standing.{Filling}
 use Rattle.building.specs.States.{more}
 use Rattle.building.proofs.BranchTurn.{branch-onward, branch-ready, branch-room}
-use Rattle.building.proofs.OwnRow.{Onward}
+use Rattle.building.proofs.OwnShelf.{Onward}
 use Rattle.building.proofs.Present.{inside-here}
 use Rattle.building.proofs.RuleLoop.{Ran, ran-ends, ran-onward, ran-starts, searched-from}
 use Rattle.building.proofs.node.branch_rules.Statement.{statement}
