@@ -12,8 +12,10 @@ use Rattle.paper.specs.Refusals.{queryIn}
 use Rattle.paper.specs.Stream.{number, recordsOf}
 use Rattle.stream.specs.Positions.{NextRule, after, recordAt}
 use Rattle.building.specs.Batch.{Record, Set, recordsIn}
+use Rattle.building.specs.Bounds.{batchNumbers}
 use Rattle.building.specs.Branches.{BranchReady, branchOf}
 use Rattle.building.specs.Frames.{FrameIs, width}
+use Rattle.building.specs.Kinds.{branchRuleKind, leafKind, ruleAbove}
 use Rattle.building.specs.Rules.{Branch, Branches, Room, Stands}
 use Rattle.building.specs.Standing.{AtRule, Standing, State, noSlots}
 use Rattle.building.proofs.Frames.{flags-at-most, frame-down}
@@ -23,8 +25,8 @@ use Rattle.building.proofs.OwnShelf.{Onward, below-top, in-frame, low-s
 use Rattle.building.proofs.Present.{NodeReady, kind-here, label-here, node-ready, tree-kind-here, two-frames}
 
 module _ (input : List ℕ) (t : State) (work : List ℕ) (made : List Record) (s : Standing input t work made) (h : t .rule < length input)
-    (branch : getD input (t .at) 0 ≡ 1 → ⊥) where
-  no-leaf : s .node .here .kind ≡ 1 → ⊥
+    (branch : getD input (t .at) 0 ≡ leafKind → ⊥) where
+  no-leaf : s .node .here .kind ≡ leafKind → ⊥
   no-leaf e = branch (kind-here input t (s .constants) (s .node) ∙ e)
 
   branch-kind : s .node .here .kind ≡ 2
@@ -54,7 +56,7 @@ module _ (input : List ℕ) (t : State) (work : List ℕ) (made : List Record) (
   rights-frame : FrameIs (t .arity) (t .states) work ((t .top - 1) * width (t .arity) (t .states)) (getD (s .node .stack) 0 noSlots)
   rights-frame = child-frame 0 (t .top - 1) (omega (arith, two-below, s .node .high)) (omega (arith, s .node .high))
 
-  room-here : (batch : List ℕ) → 3240 ≤ length batch → t .from ≤ t .limit → Room (branchOf input t (t .rule)) (t .count) batch work
+  room-here : (batch : List ℕ) → batchNumbers ≤ length batch → t .from ≤ t .limit → Room (branchOf input t (t .rule)) (t .count) batch work
   room-here batch enough few = record {
     flags = record { arity = t .arity; small = ready .arity; powers = refl };
     own-flag = branch-bytes .flag;
@@ -71,7 +73,7 @@ module _ (input : List ℕ) (t : State) (work : List ℕ) (made : List Record) (
     right-marked = rights-frame .marked (getD input (t .rule + 4) 0) (branch-bytes .right);
   }
 
-  pub branch-room : {rule : Branch} {batch : List ℕ} → rule ≡ branchOf input t (t .rule) → 3240 ≤ length batch → t .from ≤ t .limit
+  pub branch-room : {rule : Branch} {batch : List ℕ} → rule ≡ branchOf input t (t .rule) → batchNumbers ≤ length batch → t .from ≤ t .limit
       → Room rule (t .count) batch work
   branch-room {batch = batch} same enough few = subst (λ x. Room x (t .count) batch work) (sym same) (room-here batch enough few)
 
@@ -91,7 +93,7 @@ module _ (input : List ℕ) (t : State) (work : List ℕ) (made : List Record) (
 
 -- the rule is done
 module _ (input : List ℕ) (t : State) (work batch : List ℕ) (base : List Record) (s : Standing input t work (base ++ recordsIn (t .count) batch))
-    (start : length base ≡ t .from) (h : t .rule < length input) (branch : getD input (t .at) 0 ≡ 1 → ⊥) (count next : ℕ)
+    (start : length base ≡ t .from) (h : t .rule < length input) (branch : getD input (t .at) 0 ≡ leafKind → ⊥) (count next : ℕ)
     (work′ batch′ : List ℕ) (long : length work′ ≡ length work) where
   abbrev made : List Record
   made = base ++ recordsIn (t .count) batch
@@ -118,10 +120,10 @@ module _ (input : List ℕ) (t : State) (work batch : List ℕ) (base : List Rec
   bytes = branch-bytes input t work made s h branch
 
   module _ (e : Branches (branchOf input t (t .rule)) (t .count) batch work count batch′ work′)
-      (search : NextRule input (t .rule + 6) 18 (getD input (t .at + 1) 0) next) where
-    found : NextRule input (after input (t .rule)) (s .node .here .kind + 16) (number (s .node .here) 0) next
+      (search : NextRule input (t .rule + 6) branchRuleKind (getD input (t .at + 1) 0) next) where
+    found : NextRule input (after input (t .rule)) (s .node .here .kind + ruleAbove) (number (s .node .here) 0) next
     found =
-        let same : 18 ≡ s .node .here .kind + 16 = omega (arith, kind) in
+        let same : branchRuleKind ≡ s .node .here .kind + ruleAbove = omega (arith, kind) in
         subst₃ (λ x y z. NextRule input x y z next) (sym (bytes .behind)) same (label-here input t (s .constants) (s .node)) search
 
     done : Stands base (getD input (t .rule + 5) 0) (branchOf input t (t .rule)) z count batch′ work′
@@ -168,5 +170,5 @@ module _ (input : List ℕ) (t : State) (work batch : List ℕ) (base : List Rec
 
   -- of the numbers that the code has
   pub branch-onward : {rule : Branch} → rule ≡ branchOf input t (t .rule) → Branches rule (t .count) batch work count batch′ work′
-      → NextRule input (t .rule + 6) 18 (getD input (t .at + 1) 0) next → Onward input t work base count next work′ batch′
+      → NextRule input (t .rule + 6) branchRuleKind (getD input (t .at + 1) 0) next → Onward input t work base count next work′ batch′
   branch-onward same e = branch-stepped (subst (λ x. Branches x (t .count) batch work count batch′ work′) same e)

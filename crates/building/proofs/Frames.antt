@@ -20,6 +20,7 @@ use Rattle.paper.specs.Stream.{StreamRecord}
 use Rattle.paper.specs.Tree.{Tree, grow, mostFrom, mostUnjoined, unjoined}
 use Rattle.laws.specs.Plain.{Set, empty}
 use Rattle.building.specs.Batch.{setIn}
+use Rattle.building.specs.Bounds.{mostFlags, mostFrames, mostPlaces, mostStates, slotSets}
 use Rattle.building.specs.Frames.{FrameIs, FramesAre, width}
 use Rattle.building.specs.Slots.{Marked, shelfAt}
 use Rattle.building.proofs.Slots.{marked-same}
@@ -30,16 +31,17 @@ pub parts-apart : (size i j : ℕ) → i < j → i * size + size ≤ j * size
 parts-apart size i j h = omega (arith, mul-le-mul-right size h)
 
 -- an arity has at most 16 flags, a frame at most 256 numbers, and there are at most 4,096 frames
-pub flags-at-most : (arity : ℕ) → arity ≤ 4 → 2 ^ arity ≤ 16
+pub flags-at-most : (arity : ℕ) → arity ≤ mostPlaces → 2 ^ arity ≤ mostFlags
 flags-at-most arity h = pow-mono h
 
-pub frame-at-most : (arity states : ℕ) → arity ≤ 4 → states ≤ 16 → width arity states ≤ 256
+pub frame-at-most : (arity states : ℕ) → arity ≤ mostPlaces → states ≤ mostStates → width arity states ≤ mostStates * mostFlags
 frame-at-most arity states ha hs = omega (arith, flags-at-most arity ha, mul-le-mul-right (2 ^ arity) hs)
 
-pub frames-at-most : (arity states frame : ℕ) → arity ≤ 4 → states ≤ 16 → frame ≤ 4096 → frame * width arity states ≤ 1048576
+pub frames-at-most : (arity states frame : ℕ) → arity ≤ mostPlaces → states ≤ mostStates → frame ≤ mostFrames
+    → frame * width arity states ≤ mostFrames * (mostStates * mostFlags)
 frames-at-most arity states frame ha hs hf = omega (arith, frame-at-most arity states ha hs, mul-le-mul-right (width arity states) hf)
 
-pub shelves-at-most : (arity state : ℕ) → arity ≤ 4 → state ≤ 16 → state * 2 ^ arity ≤ 256
+pub shelves-at-most : (arity state : ℕ) → arity ≤ mostPlaces → state ≤ mostStates → state * 2 ^ arity ≤ mostStates * mostFlags
 shelves-at-most arity state ha hq = omega (arith, flags-at-most arity ha, mul-le-mul-right (2 ^ arity) hq)
 
 -- a slot stands in its frame
@@ -86,7 +88,7 @@ module _ (arity states : ℕ) where
       → ((i : ℕ) → i < width arity states → getD work′ (base′ + i) 0 ≡ getD work (base + i) 0)
       → FrameIs arity states work base slots → FrameIs arity states work′ base′ slots
   frame-moved work work′ base base′ slots same f = record {
-    sets = λ q b hq hb. f .sets q b hq hb ∙ ap (λ x. setIn (x % 65536)) (sym (shelf q b hq hb));
+    sets = λ q b hq hb. f .sets q b hq hb ∙ ap (λ x. setIn (x % slotSets)) (sym (shelf q b hq hb));
     marked = λ q hq.
         marked-same (2 ^ arity) work work′ (base + q * 2 ^ arity) (base′ + q * 2 ^ arity) (pow-pos arity) (λ b hb. shelf q b hq hb) (f .marked q hq);
   }
@@ -101,10 +103,10 @@ module _ (arity states : ℕ) where
   pub frame-zero : (work : List ℕ) (base : ℕ) → ((i : ℕ) → i < width arity states → getD work (base + i) 0 ≡ 0)
       → FrameIs arity states work base (λ q b. empty)
   frame-zero work base zeros = record {
-    sets = λ q b hq hb. ap (λ x. setIn (x % 65536)) (sym (shelf q b hq hb));
+    sets = λ q b hq hb. ap (λ x. setIn (x % slotSets)) (sym (shelf q b hq hb));
     marked = λ q hq. record {
-      few = omega (arith, pow-pos (2 ^ arity), ap (λ x. x / 65536) (first q hq));
-      empty = λ b hb e. ap (λ x. x % 65536) (shelf q b hq hb);
+      few = omega (arith, pow-pos (2 ^ arity), ap (λ x. x / slotSets) (first q hq));
+      empty = λ b hb e. ap (λ x. x % slotSets) (shelf q b hq hb);
     };
   }
     where
@@ -210,7 +212,7 @@ module _ (arity states : ℕ) where
 
       other-sets : (q′ b : ℕ) → q′ < states → b < 2 ^ arity → (q′ ≡ q → ⊥)
           → getD work′ (base + q′ * 2 ^ arity + b) 0 ≡ getD work (base + q′ * 2 ^ arity + b) 0 → slots′ q′ b ≡ shelfAt work′ (base + q′ * 2 ^ arity) b
-      other-sets q′ b hq hb apart e = others q′ b apart ∙ f .sets q′ b hq hb ∙ ap (λ x. setIn (x % 65536)) (sym e)
+      other-sets q′ b hq hb apart e = others q′ b apart ∙ f .sets q′ b hq hb ∙ ap (λ x. setIn (x % slotSets)) (sym e)
 
       other-marked : (q′ : ℕ) → q′ < states
           → ((b : ℕ) → b < 2 ^ arity → getD work′ (base + q′ * 2 ^ arity + b) 0 ≡ getD work (base + q′ * 2 ^ arity + b) 0)

@@ -12,7 +12,9 @@ use Rattle.paper.specs.Refusals.{queryIn}
 use Rattle.paper.specs.Stream.{number, recordsOf}
 use Rattle.stream.specs.Positions.{NextRule, after, recordAt}
 use Rattle.building.specs.Batch.{Record, Set, recordsIn}
+use Rattle.building.specs.Bounds.{mostFlags, mostStates}
 use Rattle.building.specs.Branches.{shelfFrom}
+use Rattle.building.specs.Kinds.{leafKind, leafRuleKind, ruleAbove}
 use Rattle.building.specs.Rules.{Leaves, OneShelf}
 use Rattle.building.specs.Slots.{shelfAt}
 use Rattle.building.specs.Standing.{AtRule, Standing, State}
@@ -31,13 +33,13 @@ leafShelf input t = shelfFrom t (t .top) (getD input (t .rule + 3) 0)
 pub record LeafReady (input : List ℕ) (t : State) (work : List ℕ) : Type 0 where
   pub node : NodeReady input t work
   pub rule : t .rule + 4 ≤ length input
-  pub flag : getD input (t .rule + 2) 0 < 16
-  pub state : getD input (t .rule + 3) 0 < 16
+  pub flag : getD input (t .rule + 2) 0 < mostFlags
+  pub state : getD input (t .rule + 3) 0 < mostStates
   pub slot : leafShelf input t + getD input (t .rule + 2) 0 < length work
 
 module _ (input : List ℕ) (t : State) (work : List ℕ) (made : List Record) (s : Standing input t work made) (h : t .rule < length input)
-    (leaf : getD input (t .at) 0 ≡ 1) where
-  leaf-kind : s .node .here .kind ≡ 1
+    (leaf : getD input (t .at) 0 ≡ leafKind) where
+  leaf-kind : s .node .here .kind ≡ leafKind
   leaf-kind = sym (kind-here input t (s .constants) (s .node)) ∙ leaf
 
   -- the bytes of the rule
@@ -62,7 +64,7 @@ module _ (input : List ℕ) (t : State) (work : List ℕ) (made : List Record) (
 
 -- the rule is done
 module _ (input : List ℕ) (t : State) (work batch : List ℕ) (base : List Record) (s : Standing input t work (base ++ recordsIn (t .count) batch))
-    (start : length base ≡ t .from) (h : t .rule < length input) (leaf : getD input (t .at) 0 ≡ 1) (count next : ℕ)
+    (start : length base ≡ t .from) (h : t .rule < length input) (leaf : getD input (t .at) 0 ≡ leafKind) (count next : ℕ)
     (work′ batch′ : List ℕ) (long : length work′ ≡ length work) where
   abbrev made : List Record
   made = base ++ recordsIn (t .count) batch
@@ -73,17 +75,17 @@ module _ (input : List ℕ) (t : State) (work batch : List ℕ) (base : List Rec
   abbrev slots : Slots Set
   slots = put (s .slots) (getD input (t .rule + 3) 0) (getD input (t .rule + 2) 0) (shelfAt work′ (leafShelf input t) (getD input (t .rule + 2) 0))
 
-  kind : s .node .here .kind ≡ 1
+  kind : s .node .here .kind ≡ leafKind
   kind = leaf-kind input t work made s h leaf
 
   bytes : LeafRuleAt input t (number (s .node .here) 0)
   bytes = leaf-bytes input t work made s h leaf
 
   module _ (e : Leaves (t .node) (getD input (t .rule + 2) 0) (leafShelf input t) (t .from) (t .count) batch work count batch′ work′)
-      (search : NextRule input (t .rule + 4) 17 (getD input (t .at + 1) 0) next) where
-    found : NextRule input (after input (t .rule)) (s .node .here .kind + 16) (number (s .node .here) 0) next
+      (search : NextRule input (t .rule + 4) leafRuleKind (getD input (t .at + 1) 0) next) where
+    found : NextRule input (after input (t .rule)) (s .node .here .kind + ruleAbove) (number (s .node .here) 0) next
     found =
-        let same : 17 ≡ s .node .here .kind + 16 = omega (arith, kind) in
+        let same : leafRuleKind ≡ s .node .here .kind + ruleAbove = omega (arith, kind) in
         subst₃ (λ x y z. NextRule input x y z next) (sym (bytes .behind)) same (label-here input t (s .constants) (s .node)) search
 
     step : leafStep recordSets (number (s .node .here) 0) (t .node) (made, s .slots)
@@ -123,6 +125,6 @@ module _ (input : List ℕ) (t : State) (work batch : List ℕ) (base : List Rec
   -- of the numbers that the code has
   pub leaf-onward : {to : ℕ} → to ≡ leafShelf input t
       → Leaves (t .node) (getD input (t .rule + 2) 0) to (t .from) (t .count) batch work count batch′ work′
-      → NextRule input (t .rule + 4) 17 (getD input (t .at + 1) 0) next → Onward input t work base count next work′ batch′
+      → NextRule input (t .rule + 4) leafRuleKind (getD input (t .at + 1) 0) next → Onward input t work base count next work′ batch′
   leaf-onward same e =
       leaf-stepped (subst (λ x. Leaves (t .node) (getD input (t .rule + 2) 0) x (t .from) (t .count) batch work count batch′ work′) same e)

@@ -1,3 +1,4 @@
+-- The lemmas that the proofs of the functions cite, each file behind those that it cites. Last what is shown of `build` itself.
 pub mod Written
 pub mod Marks
 pub mod Slots

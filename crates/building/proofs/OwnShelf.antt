@@ -11,6 +11,7 @@ use lib.ListN.{drop, length}
 use Rattle.paper.specs.Building.{Slots}
 use Rattle.paper.specs.Stream.{recordsOf}
 use Rattle.building.specs.Batch.{Record, Set, recordsIn}
+use Rattle.building.specs.Bounds.{ruleRecords, slotSets}
 use Rattle.building.specs.Branches.{shelfFrom}
 use Rattle.building.specs.Frames.{FramesAre, width}
 use Rattle.building.specs.Rules.{Low, OneShelf, Shelf}
@@ -54,7 +55,7 @@ module _ (input : List ℕ) (t : State) (work : List ℕ) (made : List Record) (
 pub record Onward (input : List ℕ) (t : State) (work : List ℕ) (base : List Record) (count next : ℕ) (work′ batch′ : List ℕ) : Type 0 where
   pub standing : Standing input (more t count next) work′ (base ++ recordsIn count batch′)
   pub rest : drop (t .asked) work′ ≡ drop (t .asked) work
-  pub few : count ≤ t .count + 324
+  pub few : count ≤ t .count + ruleRecords
   pub fewer : length (recordsOf (drop next input)) < length (recordsOf (drop (t .rule) input))
 
 module _ (input : List ℕ) (t : State) (work : List ℕ) (made : List Record) (s : Standing input t work made) (q : ℕ) (hq : q < t .states)
@@ -83,11 +84,11 @@ module _ (input : List ℕ) (t : State) (work : List ℕ) (made : List Record) (
       to = shelfFrom t (t .top) q
 
       go : (c d : Bool) → ltb i to ≡ c → ltb i (to + 2 ^ t .arity) ≡ d → slotAt work′ i ≤ t .from + count + 1
-      go true d w v = omega (arith, ap (λ x. x % 65536) (o .below i (ltb-true i to w)), s .frames .low i l, o .more)
+      go true d w v = omega (arith, ap (λ x. x % slotSets) (o .below i (ltb-true i to w)), s .frames .low i l, o .more)
       go false true w v =
           let there : to + (i - to) ≡ i = omega (arith, ltb-false i to w) in
           omega (arith, o .low (i - to) (omega (arith, ltb-false i to w, ltb-true i (to + 2 ^ t .arity) v)), ap (slotAt work′) there)
-      go false false w v = omega (arith, ap (λ x. x % 65536) (o .above i (ltb-false i (to + 2 ^ t .arity) v)), s .frames .low i l, o .more)
+      go false false w v = omega (arith, ap (λ x. x % slotSets) (o .above i (ltb-false i (to + 2 ^ t .arity) v)), s .frames .low i l, o .more)
 
   pub shelf-standing : Standing input (more t count next) work′ made′
   shelf-standing = record {

@@ -16,6 +16,7 @@ use Rattle.paper.specs.Lists.{each, through, upTo}
 use Rattle.paper.specs.Sound.{apart}
 use Rattle.laws.proofs.Lists.{each-none, or-right, through-upTo}
 use Rattle.building.specs.Batch.{Record, Set, empty, recordsIn, setIn}
+use Rattle.building.specs.Bounds.{slotSets}
 use Rattle.building.specs.Rules.{Branch, Low, OneShelf, OneSlot, Runs, Shelf, Stands, Unites, flagsAt, pairAt, splitAt, splitsRun}
 use Rattle.building.specs.Slots.{Marked, shelfAt, slotAt}
 use Rattle.building.proofs.Slots.{marked-put, marked-same}
@@ -72,7 +73,7 @@ module _ (own b₁ n : ℕ) where
 module _ {to size used most k : ℕ} {W : List ℕ} {count : ℕ} {W′ : List ℕ} (o : OneShelf to size used most k W count W′) (from : ℕ)
     (before : from + size ≤ to) where
   pub same-set : (b : ℕ) → b < size → slotAt W′ (from + b) ≡ slotAt W (from + b)
-  same-set b l = ap (λ x. x % 65536) (o .below (from + b) (omega arith))
+  same-set b l = ap (λ x. x % slotSets) (o .below (from + b) (omega arith))
 
   pub shelf-stays : (slots : Slots Set) (q : ℕ) → Shelf slots q size W from → Shelf slots q size W′ from
   shelf-stays slots q r b l = r b l ∙ ap setIn (sym (same-set b l))

@@ -15,7 +15,8 @@ use lib.ListN.{length, length-append}
 use lib.Pow.{pow-mono, pow-pos}
 use Rattle.paper.specs.Lists.{each, upTo}
 use Rattle.laws.proofs.Bound.{few-beside}
-use Rattle.building.specs.Batch.{recordsIn}
+use Rattle.building.specs.Batch.{RoomFor, recordsIn}
+use Rattle.building.specs.Bounds.{batchRecords, fieldNumbers, mostFlags, ruleRecords, ruleSplits, splitRecords}
 use Rattle.building.specs.Rules.{Branch, Branches, FlagsOf, OneShelf, Room, Runs, Stands, Unites, flagsAt, pairAt, splitsRun}
 use Rattle.building.specs.Slots.{marksAt, slotAt}
 use Rattle.building.proofs.Marks.{Rest, first-below, first-onward, firstMark, laterMarks, none-between, rest-ends, rest-onward, rest-starts}
@@ -29,7 +30,7 @@ climbs P zero n m e step here = subst P (let w : n ≡ m = omega arith in w) her
 climbs P (suc d) n m e step here =
     climbs P d (n + 1) m (omega arith) (λ b l u. step b (omega arith) u) (step n (omega arith) (omega arith) here)
 
-pub size-small : (size : ℕ) → FlagsOf size → size ≤ 16
+pub size-small : (size : ℕ) → FlagsOf size → size ≤ mostFlags
 size-small size f = omega (arith, f .powers, pow-mono (f .small))
 
 sum-below : (size a b : ℕ) → FlagsOf size → a < size → b < size → bitAnd a b ≡ 0 → a + b < size
@@ -37,12 +38,12 @@ sum-below size a b f ha hb e =
     omega (arith, f .powers, or-disjoint a b e, or-lt (f .arity) a b (omega (arith, f .powers)) (omega (arith, f .powers)))
 
 -- the flags beside an own flag are at most 81
-few-flags : (size own : ℕ) → FlagsOf size → own < size → length (each (upTo size) (flagsAt own size)) ≤ 81
+few-flags : (size own : ℕ) → FlagsOf size → own < size → length (each (upTo size) (flagsAt own size)) ≤ ruleSplits
 few-flags size own f h =
     let n : ℕ = 2 ^ f .arity in
-    let few : length (each (upTo n) (flagsAt own n)) ≤ 81 =
+    let few : length (each (upTo n) (flagsAt own n)) ≤ ruleSplits =
     omega (arith, few-beside (f .arity) (f .small) own (omega (arith, f .powers)), pow-le-pow-right {n = 3} (omega arith) (f .small)) in
-    subst (λ m. length (each (upTo m) (flagsAt own m)) ≤ 81) (sym (f .powers)) few
+    subst (λ m. length (each (upTo m) (flagsAt own m)) ≤ ruleSplits) (sym (f .powers)) few
 
 -- ---- room stays
 pub some-flag : (size : ℕ) → FlagsOf size → 0 < size
@@ -93,14 +94,14 @@ module _ {rule : Branch} {k : ℕ} {B W : List ℕ} {b₁ n count : ℕ} {B′ W
       sum-below (rule .size) (rule .own + b₁) n (room .flags) left-sum right-flag e
 
   -- a split has room
-  pub split-room : bitAnd (rule .own + b₁) n ≡ 0 → k + 4 * length (flagsAt (rule .own) (rule .size) b₁) ≤ 648
-      → ((5 * count + 20 ≤ length B′) × (rule .used + count ≤ 60644))
-      × (((rule .own + b₁ + n < 16) × (rule .node < 65536))
+  pub split-room : bitAnd (rule .own + b₁) n ≡ 0 → k + splitRecords * length (flagsAt (rule .own) (rule .size) b₁) ≤ batchRecords
+      → RoomFor splitRecords (rule .used) count B′
+      × (((rule .own + b₁ + n < mostFlags) × (rule .node < fieldNumbers))
       × (((slotAt W (rule .left + b₁) ≤ rule .used + count + 1) × (slotAt W′ (rule .right + n) ≤ rule .used + count + 1))
       × ((rule .to + (rule .own + b₁ + n) < length W′) × (slotAt W′ (rule .to + (rule .own + b₁ + n)) ≤ rule .used + count + 1))))
   split-room e few =
       let below = flag-below e in
-      let f : count + 4 ≤ 648 =
+      let f : count + splitRecords ≤ batchRecords =
       omega (
         arith,
         done .shelf .few,
@@ -231,7 +232,7 @@ module _ {rule : Branch} {k : ℕ} {B W : List ℕ} {n count : ℕ} {B′ W′ :
   pub beside-room : Room rule count B′ W′
   beside-room = room-stays batch-kept work-kept (done .shelf) room
 
-  pub beside-few : k ≤ 324 → count + 4 * length (flagsAt (rule .own) (rule .size) n) ≤ 648
+  pub beside-few : k ≤ ruleRecords → count + splitRecords * length (flagsAt (rule .own) (rule .size) n) ≤ batchRecords
   beside-few few =
       let flags = flagsAt (rule .own) (rule .size) in
       omega (

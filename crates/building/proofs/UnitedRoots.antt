@@ -16,6 +16,7 @@ use Rattle.paper.specs.Query.{acceptingOf}
 use Rattle.paper.specs.Refusals.{queryIn}
 use Rattle.paper.specs.Stream.{recordsOf}
 use Rattle.building.specs.Batch.{Made, Makes, Record, Set, empty, recordsIn, setIn}
+use Rattle.building.specs.Bounds.{mostFlags}
 use Rattle.building.specs.Branches.{shelfFrom}
 use Rattle.building.specs.Frames.{width}
 use Rattle.building.specs.Roots.{UnitedTo, UnitesNext, unitedTo}
@@ -94,7 +95,7 @@ module _ (input : List ℕ) (t : State) (work batch : List ℕ) where
 -- ---- what the code asks of the numbers, and has done
 pub record RootReady (input : List ℕ) (t : State) (work : List ℕ) (q : ℕ) : Type 0 where
   pub node : NodeReady input t work
-  pub few-flags : 2 ^ t .arity ≤ 16
+  pub few-flags : 2 ^ t .arity ≤ mostFlags
   pub some-flag : 1 ≤ 2 ^ t .arity
   pub slot : {shelf size : ℕ} → shelf ≡ shelfFrom t (t .top) q → size ≡ 2 ^ t .arity
       → (shelf + (size - 1) < length work) × (slotAt work (shelf + (size - 1)) ≤ t .from + t .count + 1)

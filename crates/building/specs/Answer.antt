@@ -7,6 +7,7 @@ use Rattle.paper.specs.Refusals.{build, workAfter, workFor}
 use Rattle.paper.specs.Answers.{saysBuilt, told}
 use Rattle.paper.specs.declared.Built.{Built}
 use Rattle.building.specs.Batch.{Record}
+use Rattle.building.specs.Bounds.{mostRecords}
 use Rattle.building.specs.Standing.{State, Stopped}
 
 -- the building has stopped, of some input and with some records made
@@ -17,7 +18,7 @@ Ended t work = (input : List ℕ) × (all : List Record) × Stopped input t all 
 -- that the build began with: behind the part that is asked for it is still the same
 abbrev pub Finishes : State → List ℕ → Built → List ℕ → Type 0
 Finishes t work r work′ =
-    (input first : List ℕ) (entries : ℕ) (all : List Record) → Stopped input t all → t .limit ≡ min entries 60000
+    (input first : List ℕ) (entries : ℕ) (all : List Record) → Stopped input t all → t .limit ≡ min entries mostRecords
     → length first ≡ length work → drop (t .asked) work ≡ drop (t .asked) first
     → (saysBuilt r ≡ told (λ a. a .0) (build input (length first) entries))
     × (work′ ≡ workAfter (build input (length first) entries) (workFor input) first)

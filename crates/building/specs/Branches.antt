@@ -2,6 +2,7 @@
 use mathlib.Core.List.{List}
 use Prim.Native.Nat.{ℕ, _+_, _*_, _-_, _^_, _≤_, _<_}
 use lib.ListN.{length, getD}
+use Rattle.building.specs.Bounds.{mostFlags, mostFrames, mostPlaces, mostStates}
 use Rattle.building.specs.Frames.{width}
 use Rattle.building.specs.Rules.{Branch}
 use Rattle.building.specs.States.{State}
@@ -25,11 +26,11 @@ branchOf input t rule = record {
 -- the rule is there, there are two frames below the node's, and all numbers are in range
 pub record BranchReady (input : List ℕ) (t : State) (rule : ℕ) : Type 0 where
   pub inside : rule + 6 ≤ length input
-  pub arity : t .arity ≤ 4
-  pub states : t .states ≤ 16
-  pub frames : t .top ≤ 4096
+  pub arity : t .arity ≤ mostPlaces
+  pub states : t .states ≤ mostStates
+  pub frames : t .top ≤ mostFrames
   pub below : 2 ≤ t .top
-  pub flag : getD input (rule + 2) 0 < 16
-  pub left : getD input (rule + 3) 0 < 16
-  pub right : getD input (rule + 4) 0 < 16
-  pub state : getD input (rule + 5) 0 < 16
+  pub flag : getD input (rule + 2) 0 < mostFlags
+  pub left : getD input (rule + 3) 0 < mostStates
+  pub right : getD input (rule + 4) 0 < mostStates
+  pub state : getD input (rule + 5) 0 < mostStates

@@ -1,3 +1,6 @@
+-- The definitions that the contracts cite, each file behind those that it cites. Last the contract of `build`.
+pub mod Bounds
+pub mod Kinds
 pub mod Batch
 pub mod Slots
 pub mod Rules

@@ -11,6 +11,7 @@ use Rattle.paper.specs.Query.{branchRule, leafRule}
 use Rattle.paper.specs.Sound.{apart}
 pub use Rattle.building.specs.declared.rule.Branch.{Branch}
 use Rattle.building.specs.Batch.{Record, Set, recordsIn, setIn}
+use Rattle.building.specs.Bounds.{batchNumbers, fieldNumbers, mostPlaces, mostRecords, ruleRecords, splitRecords}
 use Rattle.building.specs.Slots.{Marked, Puts, shelfAt, slotAt}
 
 -- ---- one slot
@@ -41,7 +42,7 @@ pub record Unites (rule : Branch) (b₁ b₂ left right k : ℕ) (batch work : L
       → unite recordSets (rule .node) t flag slots
       (triple recordSets (rule .node) (splitAt (rule .own) 0 0 t (b₁, b₂)) (setIn left) (setIn right) (base ++ recordsIn k batch))
       ≡ (base ++ recordsIn count batch′, put slots t flag (shelfAt work′ (rule .to) flag))
-  pub slot : OneSlot (rule .to) (rule .own + b₁ + b₂) 4 (rule .used) k work count work′
+  pub slot : OneSlot (rule .to) (rule .own + b₁ + b₂) splitRecords (rule .used) k work count work′
 
 -- ---- shelves of slots
 -- the slots of the state t, for the flags below size, stand in work from `from` on
@@ -85,7 +86,7 @@ pub record Runs (flags : List (ℕ × ℕ)) (rule : Branch) (k : ℕ) (batch wor
   pub runs : (base : List Record) (p q t : ℕ) (lefts rights : Slots Set) (z : List Record × Slots Set) → length base ≡ rule .used
       → Shelf lefts p (rule .size) work (rule .left) → Shelf rights q (rule .size) work (rule .right) → Stands base t rule z k batch work
       → Stands base t rule (splitsRun rule p q t lefts rights flags z) count batch′ work′
-  pub shelf : OneShelf (rule .to) (rule .size) (rule .used) (4 * length flags) k work count work′
+  pub shelf : OneShelf (rule .to) (rule .size) (rule .used) (splitRecords * length flags) k work count work′
 
 -- ---- a branch rule
 -- one that matches: all its splits, whatever its label and its states are. The slots of another state s stay
@@ -96,12 +97,12 @@ pub record Branches (rule : Branch) (k : ℕ) (batch work : List ℕ) (count : �
       through (branchStep recordSets (rule .node) lefts rights) (base ++ recordsIn k batch, slots)
       (splitsBy arity label (branchRule label (rule .own) p q t)) in
       Stands base t rule z count batch′ work′ × ((s b : ℕ) → (s ≡ t → ⊥) → z .1 s b ≡ slots s b)
-  pub shelf : OneShelf (rule .to) (rule .size) (rule .used) 324 k work count work′
+  pub shelf : OneShelf (rule .to) (rule .size) (rule .used) ruleRecords k work count work′
 
 -- size is the number of flags of an arity up to 4
 pub record FlagsOf (size : ℕ) : Type 0 where
   pub arity : ℕ
-  pub small : arity ≤ 4
+  pub small : arity ≤ mostPlaces
   pub powers : size ≡ 2 ^ arity
 
 -- room for a branch rule that has come to k records of the batch, and three shelves in work, of which the rule's own is the last. Their
@@ -109,9 +110,9 @@ pub record FlagsOf (size : ℕ) : Type 0 where
 pub record Room (rule : Branch) (k : ℕ) (batch work : List ℕ) : Type 0 where
   pub flags : FlagsOf (rule .size)
   pub own-flag : rule .own < rule .size
-  pub few : rule .used ≤ 60000
-  pub few-nodes : rule .node < 65536
-  pub records : 3240 ≤ length batch
+  pub few : rule .used ≤ mostRecords
+  pub few-nodes : rule .node < fieldNumbers
+  pub records : batchNumbers ≤ length batch
   pub left-before : rule .left + rule .size ≤ rule .to
   pub right-before : rule .right + rule .size ≤ rule .to
   pub within : rule .to + rule .size ≤ length work

@@ -6,10 +6,11 @@ use Prim.Native.Nat.{ℕ, _+_, _<_, _^_, _/_, _%_}
 use lib.Bits.{bitOr}
 use lib.ListN.{getD}
 use Rattle.building.specs.Batch.{Set, setIn}
+use Rattle.building.specs.Bounds.{slotSets}
 
 -- the set of a slot, as a number
 abbrev pub slotAt : List ℕ → ℕ → ℕ
-slotAt work i = getD work i 0 % 65536
+slotAt work i = getD work i 0 % slotSets
 
 -- the slots of one state: work from `from` on, a slot for each flag
 abbrev pub shelfAt : List ℕ → ℕ → ℕ → Set
@@ -17,7 +18,7 @@ shelfAt work from b = setIn (slotAt work (from + b))
 
 -- the marks of the shelf that starts there, and whether a flag is marked: 1 or 0
 abbrev pub marksAt : List ℕ → ℕ → ℕ
-marksAt work from = getD work from 0 / 65536
+marksAt work from = getD work from 0 / slotSets
 
 abbrev pub markAt : ℕ → ℕ → ℕ
 markAt marks b = marks / 2 ^ b % 2

@@ -6,8 +6,31 @@ ghost use mathlib.Core.Path.{_≡_};
 ghost use Prim.Native.Nat.{_+_, _*_, _≤_, _<_};
 ghost use lib.ListN.{length};
 ghost use Rattle.paper.specs.Building.{newRecord, singleRecord, productRecord, unionRecord};
-ghost use Rattle.building.specs.Batch.{recordsIn, setIn, Makes};
+ghost use Rattle.building.specs.Batch.{recordsIn, setIn, Makes, RoomFor};
+ghost use Rattle.building.specs.Bounds.{mostFlags, recordNumbers};
 use paper::Record;
+
+// A record in the batch is five numbers: kind, node, left, right, flag.
+const RECORD_NUMBERS: usize = 5;
+
+// One rule makes at most so many records.
+pub(crate) const RULE_RECORDS: usize = 4 * 81;
+
+pub(crate) const BATCH_RECORDS: usize = 2 * RULE_RECORDS;
+
+pub(crate) const BATCH_NUMBERS: usize = RECORD_NUMBERS * BATCH_RECORDS;
+
+const SINGLE: u16 = 1;
+
+const UNION: u16 = 2;
+
+const PRODUCT: u16 = 3;
+
+pub(crate) const EMPTY: u64 = 0;
+
+const UNIT: u64 = 1;
+
+const FIRST_RECORD: u64 = 2;
 
 // How many records stand in the batch, and the set that was made.
 pub(crate) struct Made {
@@ -17,10 +40,10 @@ pub(crate) struct Made {
 
 // The record `new`, put behind the first k of the batch.
 fn put(batch: &mut [u16], k: usize, new: Record)
-    requires { ⌜ 5 * k + 5 ≤ length (now batch) ⌝ }
+    requires { ⌜ recordNumbers * (k + 1) ≤ length (now batch) ⌝ }
     ensures { λ r. ⌜ recordsIn (k + 1) (now (batch .exit)) ≡ recordsIn k (now (batch .entry)) ++ (new ∷ []) ⌝ }
 {
-    let at = 5 * k;
+    let at = RECORD_NUMBERS * k;
     batch[at] = new.kind;
     batch[at + 1] = new.node;
     batch[at + 2] = new.left;
@@ -30,27 +53,30 @@ fn put(batch: &mut [u16], k: usize, new: Record)
 
 // The record `new` as one more, and its set.
 fn new_record(batch: &mut [u16], k: usize, used: usize, new: Record) -> Made
-    requires { ⌜ (5 * k + 5 ≤ length (now batch)) × (used + k ≤ 60648) ⌝ }
+    requires { ⌜ RoomFor 1 used k (now batch) ⌝ }
     ensures { λ r. ⌜ Makes (newRecord new) 1 used k (now (batch .entry)) r (now (batch .exit)) ⌝ }
 {
     put(&mut *batch, k, new);
     Made {
         count: k + 1,
-        set: (used + k) as u64 + 2,
+        set: (used + k) as u64 + FIRST_RECORD,
     }
 }
 
 // The node at each place of the flag; unit if it has none.
 pub(crate) fn single(batch: &mut [u16], k: usize, used: usize, node: u16, flag: usize) -> Made
-    requires { ⌜ (5 * k + 5 ≤ length (now batch)) × (used + k ≤ 60648) ⌝ }
-    requires { ⌜ flag < 16 ⌝ }
+    requires { ⌜ RoomFor 1 used k (now batch) ⌝ }
+    requires { ⌜ flag < mostFlags ⌝ }
     ensures { λ r. ⌜ Makes (singleRecord node flag) 1 used k (now (batch .entry)) r (now (batch .exit)) ⌝ }
 {
     if flag == 0 {
-        return Made { count: k, set: 1 };
+        return Made {
+            count: k,
+            set: UNIT,
+        };
     }
     let new = Record {
-        kind: 1,
+        kind: SINGLE,
         node: node,
         left: 0,
         right: 0,
@@ -69,28 +95,28 @@ pub(crate) fn product(
     left: u64,
     right: u64,
 ) -> Made
-    requires { ⌜ (5 * k + 5 ≤ length (now batch)) × (used + k ≤ 60648) ⌝ }
-    requires { ⌜ flag < 16 ⌝ }
+    requires { ⌜ RoomFor 1 used k (now batch) ⌝ }
+    requires { ⌜ flag < mostFlags ⌝ }
     requires { ⌜ (left ≤ used + k + 1) × (right ≤ used + k + 1) ⌝ }
     ensures { λ r. ⌜ Makes (productRecord node flag (setIn left) (setIn right)) 1 used k (now (batch .entry)) r (now (batch .exit)) ⌝ }
 {
-    if left == 0 || right == 1 {
+    if left == EMPTY || right == UNIT {
         return Made {
             count: k,
             set: left,
         };
     }
-    if left == 1 || right == 0 {
+    if left == UNIT || right == EMPTY {
         return Made {
             count: k,
             set: right,
         };
     }
     let new = Record {
-        kind: 3,
+        kind: PRODUCT,
         node: node,
-        left: (left - 2) as u16,
-        right: (right - 2) as u16,
+        left: (left - FIRST_RECORD) as u16,
+        right: (right - FIRST_RECORD) as u16,
         flag: flag as u16,
     };
     new_record(&mut *batch, k, used, new)
@@ -106,28 +132,28 @@ pub(crate) fn union(
     left: u64,
     right: u64,
 ) -> Made
-    requires { ⌜ (5 * k + 5 ≤ length (now batch)) × (used + k ≤ 60648) ⌝ }
-    requires { ⌜ flag < 16 ⌝ }
+    requires { ⌜ RoomFor 1 used k (now batch) ⌝ }
+    requires { ⌜ flag < mostFlags ⌝ }
     requires { ⌜ (left ≤ used + k + 1) × (right ≤ used + k + 1) ⌝ }
     ensures { λ r. ⌜ Makes (unionRecord node flag (setIn left) (setIn right)) 1 used k (now (batch .entry)) r (now (batch .exit)) ⌝ }
 {
-    if left == 0 {
+    if left == EMPTY {
         return Made {
             count: k,
             set: right,
         };
     }
-    if left == 1 || right < 2 {
+    if left == UNIT || right < FIRST_RECORD {
         return Made {
             count: k,
             set: left,
         };
     }
     let new = Record {
-        kind: 2,
+        kind: UNION,
         node: node,
-        left: (left - 2) as u16,
-        right: (right - 2) as u16,
+        left: (left - FIRST_RECORD) as u16,
+        right: (right - FIRST_RECORD) as u16,
         flag: flag as u16,
     };
     new_record(&mut *batch, k, used, new)

@@ -4,11 +4,12 @@ ghost use mathlib.Core.Path.{_≡_};
 ghost use Prim.Native.Nat.{_+_, _*_, _^_, _≤_, _<_};
 ghost use lib.ListN.{length, drop, replicate};
 ghost use lib.Seq.{paste};
+ghost use Rattle.building.specs.Bounds.{mostFrames, mostPlaces, mostStates};
 ghost use Rattle.building.specs.Frames.{width};
 
 // How many flags an arity has.
 pub(crate) fn flags(arity: usize) -> usize
-    requires { ⌜ arity ≤ 4 ⌝ }
+    requires { ⌜ arity ≤ mostPlaces ⌝ }
     ensures { λ r. ⌜ r ≡ 2 ^ arity ⌝ }
 {
     1usize << arity
@@ -16,7 +17,7 @@ pub(crate) fn flags(arity: usize) -> usize
 
 // How many numbers a frame has.
 pub(crate) fn frame_width(arity: usize, states: usize) -> usize
-    requires { ⌜ (arity ≤ 4) × (states ≤ 16) ⌝ }
+    requires { ⌜ (arity ≤ mostPlaces) × (states ≤ mostStates) ⌝ }
     ensures { λ r. ⌜ r ≡ width arity states ⌝ }
 {
     states * flags(arity)
@@ -24,8 +25,8 @@ pub(crate) fn frame_width(arity: usize, states: usize) -> usize
 
 // Where a frame starts.
 pub(crate) fn frame_at(arity: usize, states: usize, frame: usize) -> usize
-    requires { ⌜ (arity ≤ 4) × (states ≤ 16) ⌝ }
-    requires { ⌜ frame ≤ 4096 ⌝ }
+    requires { ⌜ (arity ≤ mostPlaces) × (states ≤ mostStates) ⌝ }
+    requires { ⌜ frame ≤ mostFrames ⌝ }
     ensures { λ r. ⌜ r ≡ frame * width arity states ⌝ }
 {
     frame * frame_width(arity, states)
@@ -33,8 +34,8 @@ pub(crate) fn frame_at(arity: usize, states: usize, frame: usize) -> usize
 
 // Where the shelf of a state starts in a frame.
 pub(crate) fn shelf_at(arity: usize, states: usize, frame: usize, state: usize) -> usize
-    requires { ⌜ (arity ≤ 4) × (states ≤ 16) ⌝ }
-    requires { ⌜ (frame ≤ 4096) × (state ≤ 16) ⌝ }
+    requires { ⌜ (arity ≤ mostPlaces) × (states ≤ mostStates) ⌝ }
+    requires { ⌜ (frame ≤ mostFrames) × (state ≤ mostStates) ⌝ }
     ensures { λ r. ⌜ r ≡ frame * width arity states + state * 2 ^ arity ⌝ }
 {
     frame_at(arity, states, frame) + state * flags(arity)

@@ -2,6 +2,7 @@
 ghost use Rattle.building.specs.Driving.{Ready, Driven};
 ghost use Rattle.building.specs.Face.{Builds};
 use crate::answer::finish;
+use crate::batch::BATCH_NUMBERS;
 use crate::filling::step;
 use crate::start::Begun;
 use crate::start::begin;
@@ -13,6 +14,7 @@ mod answer;
 mod batch;
 mod filling;
 mod frame;
+mod kind;
 mod node;
 mod roots;
 mod rule;
@@ -28,7 +30,7 @@ pub fn build(input: &[u8], work: &mut [u64], table: &mut [Record]) -> Built
     match begin(input, &mut *work, entries) {
         Begun::Refused(why) => Built::Refused(why),
         Begun::Going(s) => {
-            let mut batch: [u16; 3240] = [0; 3240];
+            let mut batch: [u16; BATCH_NUMBERS] = [0; BATCH_NUMBERS];
             let e = drive(&mut *table, input, s, &mut *work, &mut batch);
             let answer = finish(e, &mut *work);
             if e.over {

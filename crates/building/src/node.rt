@@ -3,15 +3,22 @@ ghost use mathlib.Core.Path.{_≡_};
 ghost use mathlib.Core.List.{List};
 ghost use Prim.Native.Nat.{ℕ, _+_, _≤_, _<_};
 ghost use lib.ListN.{length, getD};
+ghost use Rattle.building.specs.Bounds.{batchNumbers, ruleRecords};
 ghost use Rattle.building.specs.Branches.{BranchReady, branchOf};
 ghost use Rattle.building.specs.Coming.{Comes, HasCome, Joins};
+ghost use Rattle.building.specs.Kinds.{leafKind};
 ghost use Rattle.building.specs.Standing.{IsStanding, IsFilling, Fills};
+use crate::batch::RULE_RECORDS;
 use crate::frame::clear;
 use crate::frame::copy_down;
 use crate::frame::flags;
 use crate::frame::frame_at;
 use crate::frame::frame_width;
 use crate::frame::shelf_at;
+use crate::kind::BRANCH_RULE;
+use crate::kind::LEAF;
+use crate::kind::LEAF_RULE;
+use crate::kind::RULE_ABOVE;
 use crate::rule::Branch;
 use crate::rule::branch_rule;
 use crate::rule::leaf_rule;
@@ -23,15 +30,15 @@ use stream::next_rule;
 // The rules of a leaf from the next one on, as long as there is room in the batch for the records of one more.
 pub(crate) fn leaf_rules(t: State, input: &[u8], work: &mut [u64], batch: &mut [u16]) -> State
     requires { ⌜ IsFilling (now input) t (now work) (now batch) ⌝ }
-    requires { ⌜ (t .rule < length (now input)) × (getD (now input) (t .at) 0 ≡ 1) ⌝ }
-    requires { ⌜ (3240 ≤ length (now batch)) × (t .count ≤ 324) ⌝ }
+    requires { ⌜ (t .rule < length (now input)) × (getD (now input) (t .at) 0 ≡ leafKind) ⌝ }
+    requires { ⌜ (batchNumbers ≤ length (now batch)) × (t .count ≤ ruleRecords) ⌝ }
     ensures { λ r. ⌜ Fills (now (input .entry)) t (now (work .entry)) (now (batch .entry)) r (now (work .exit)) (now (batch .exit)) ⌝ }
 {
     let at = t.at;
     let label = input[at + 1];
     let mut count = t.count;
     let mut rule = t.rule;
-    while rule < input.len() && count <= 324 {
+    while rule < input.len() && count <= RULE_RECORDS {
         let flag = input[rule + 2] as usize;
         let to = shelf_at(t.arity, t.states, t.top, input[rule + 3] as usize);
         count = leaf_rule(
@@ -43,7 +50,7 @@ pub(crate) fn leaf_rules(t: State, input: &[u8], work: &mut [u64], batch: &mut [
             flag,
             to,
         );
-        rule = next_rule(input, rule + 1 + body_length(17), 17, label);
+        rule = next_rule(input, rule + 1 + body_length(LEAF_RULE), LEAF_RULE, label);
     }
     count_records(t, count, rule)
 }
@@ -71,18 +78,23 @@ fn branch_at(t: State, input: &[u8], rule: usize) -> Branch
 // The rules of a branch, likewise.
 pub(crate) fn branch_rules(t: State, input: &[u8], work: &mut [u64], batch: &mut [u16]) -> State
     requires { ⌜ IsFilling (now input) t (now work) (now batch) ⌝ }
-    requires { ⌜ (t .rule < length (now input)) × (getD (now input) (t .at) 0 ≡ 1 → ⊥) ⌝ }
-    requires { ⌜ (3240 ≤ length (now batch)) × (t .count ≤ 324) ⌝ }
+    requires { ⌜ (t .rule < length (now input)) × (getD (now input) (t .at) 0 ≡ leafKind → ⊥) ⌝ }
+    requires { ⌜ (batchNumbers ≤ length (now batch)) × (t .count ≤ ruleRecords) ⌝ }
     ensures { λ r. ⌜ Fills (now (input .entry)) t (now (work .entry)) (now (batch .entry)) r (now (work .exit)) (now (batch .exit)) ⌝ }
 {
     let at = t.at;
     let label = input[at + 1];
     let mut count = t.count;
     let mut rule = t.rule;
-    while rule < input.len() && count <= 324 {
+    while rule < input.len() && count <= RULE_RECORDS {
         let here = branch_at(t, input, rule);
         count = branch_rule(&mut *batch, &mut *work, count, here);
-        rule = next_rule(input, rule + 1 + body_length(18), 18, label);
+        rule = next_rule(
+            input,
+            rule + 1 + body_length(BRANCH_RULE),
+            BRANCH_RULE,
+            label,
+        );
     }
     count_records(t, count, rule)
 }
@@ -94,7 +106,7 @@ fn join_frames(t: State, input: &[u8], work: &mut [u64]) -> usize
     ensures { λ r. ⌜ Joins (now (input .entry)) t (now (work .entry)) r (now (work .exit)) ⌝ }
 {
     let at = t.at;
-    if input[at] == 1 {
+    if input[at] == LEAF {
         return t.top + 1;
     }
     let from = frame_at(t.arity, t.states, t.top);
@@ -121,14 +133,14 @@ pub(crate) fn start_node(
     next.node = node;
     next.at = at;
     next.top = top;
-    next.rule = next_rule(input, t.rules, input[at] + 16, input[at + 1]);
+    next.rule = next_rule(input, t.rules, input[at] + RULE_ABOVE, input[at + 1]);
     next
 }
 
 // The end of the present node and the start of the next.
 pub(crate) fn next_node(t: State, input: &[u8], work: &mut [u64]) -> State
     requires { ⌜ IsStanding (now input) t (now work) ⌝ }
-    requires { ⌜ (length (now input) ≤ t .rule) × (t .node + 1 < t .nodes) × (t .count ≤ 324) ⌝ }
+    requires { ⌜ (length (now input) ≤ t .rule) × (t .node + 1 < t .nodes) × (t .count ≤ ruleRecords) ⌝ }
     ensures { λ r. ⌜ ((batch : List ℕ) → Fills (now (input .entry)) t (now (work .entry)) batch r (now (work .exit)) batch) ⌝ }
 {
     let at = t.at;

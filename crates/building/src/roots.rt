@@ -1,8 +1,10 @@
 // The end of the building: the root's slots of all places.
 ghost use Prim.Native.Nat.{_+_, _≤_, _<_};
 ghost use lib.ListN.{length};
+ghost use Rattle.building.specs.Bounds.{batchNumbers, ruleRecords};
 ghost use Rattle.building.specs.Roots.{UnitedTo, UnitesNext};
 ghost use Rattle.building.specs.Standing.{IsStanding, IsFilling, Fills};
+use crate::batch::EMPTY;
 use crate::batch::Made;
 use crate::batch::union;
 use crate::frame::flags;
@@ -21,8 +23,8 @@ fn unite_root(
     made: Made,
     state: usize,
 ) -> Made
-    requires { ⌜ IsStanding (now input) t (now work) × (t .count ≤ 324) ⌝ }
-    requires { ⌜ (state < t .states) × (3240 ≤ length (now batch)) ⌝ }
+    requires { ⌜ IsStanding (now input) t (now work) × (t .count ≤ ruleRecords) ⌝ }
+    requires { ⌜ (state < t .states) × (batchNumbers ≤ length (now batch)) ⌝ }
     requires { ⌜ (t .count ≤ made .count) × (made .count ≤ t .count + state) × (made .set ≤ t .from + made .count + 1) ⌝ }
     ensures { λ r. ⌜ UnitesNext (now (input .entry)) t (now (work .entry)) state made (now (batch .entry)) r (now (batch .exit)) ⌝ }
 {
@@ -45,12 +47,12 @@ fn unite_root(
 // All states, ascending.
 fn unite_roots(t: State, input: &[u8], work: &[u64], batch: &mut [u16]) -> Made
     requires { ⌜ IsStanding (now input) t (now work) ⌝ }
-    requires { ⌜ (3240 ≤ length (now batch)) × (t .count ≤ 324) ⌝ }
+    requires { ⌜ (batchNumbers ≤ length (now batch)) × (t .count ≤ ruleRecords) ⌝ }
     ensures { λ r. ⌜ UnitedTo (now (input .entry)) t (now (work .entry)) (t .states) (now (batch .entry)) r (now (batch .exit)) ⌝ }
 {
     let mut made = Made {
         count: t.count,
-        set: 0,
+        set: EMPTY,
     };
     let mut state = 0;
     while state < t.states {
@@ -64,7 +66,7 @@ fn unite_roots(t: State, input: &[u8], work: &[u64], batch: &mut [u16]) -> Made
 pub(crate) fn roots(t: State, input: &[u8], work: &[u64], batch: &mut [u16]) -> State
     requires { ⌜ IsFilling (now input) t (now work) (now batch) ⌝ }
     requires { ⌜ (length (now input) ≤ t .rule) × (t .nodes ≤ t .node + 1) ⌝ }
-    requires { ⌜ (3240 ≤ length (now batch)) × (t .count ≤ 324) ⌝ }
+    requires { ⌜ (batchNumbers ≤ length (now batch)) × (t .count ≤ ruleRecords) ⌝ }
     ensures { λ r. ⌜ Fills (now (input .entry)) t (now (work .entry)) (now (batch .entry)) r (now (work .entry)) (now (batch .exit)) ⌝ }
 {
     let made = unite_roots(t, input, work, &mut *batch);

@@ -5,9 +5,11 @@ ghost use Prim.Native.Nat.{_+_, _*_, _≤_, _<_};
 ghost use lib.Bits.{bitAnd};
 ghost use lib.ListN.{length};
 ghost use Rattle.paper.specs.Building.{triple, recordSets};
-ghost use Rattle.building.specs.Batch.{setIn, Makes};
+ghost use Rattle.building.specs.Batch.{setIn, Makes, RoomFor};
+ghost use Rattle.building.specs.Bounds.{batchRecords, fieldNumbers, mostFlags, ruleRecords, splitRecords, tripleRecords};
 ghost use Rattle.building.specs.Rules.{splitAt, flagsAt, Unites, Leaves, Branches, Room, Runs};
 ghost use Rattle.building.specs.Slots.{slotAt};
+use crate::batch::EMPTY;
 use crate::batch::Made;
 use crate::batch::product;
 use crate::batch::single;
@@ -37,8 +39,8 @@ pub(crate) fn leaf_rule(
     flag: usize,
     to: usize,
 ) -> usize
-    requires { ⌜ (5 * k + 5 ≤ length (now batch)) × (used + k ≤ 60648) ⌝ }
-    requires { ⌜ flag < 16 ⌝ }
+    requires { ⌜ RoomFor 1 used k (now batch) ⌝ }
+    requires { ⌜ flag < mostFlags ⌝ }
     requires { ⌜ to + flag < length (now work) ⌝ }
     ensures { λ r. ⌜ Leaves node flag to used k (now (batch .entry)) (now (work .entry)) r (now (batch .exit)) (now (work .exit)) ⌝ }
 {
@@ -57,10 +59,10 @@ fn triple(
     left: u64,
     right: u64,
 ) -> Made
-    requires { ⌜ (5 * k + 15 ≤ length (now batch)) × (rule .used + k ≤ 60646) ⌝ }
-    requires { ⌜ (rule .own + b1 + b2 < 16) × (rule .node < 65536) ⌝ }
+    requires { ⌜ RoomFor tripleRecords (rule .used) k (now batch) ⌝ }
+    requires { ⌜ (rule .own + b1 + b2 < mostFlags) × (rule .node < fieldNumbers) ⌝ }
     requires { ⌜ (left ≤ rule .used + k + 1) × (right ≤ rule .used + k + 1) ⌝ }
-    ensures { λ r. ⌜ Makes (triple recordSets (rule .node) (splitAt (rule .own) 0 0 0 (b1, b2)) (setIn left) (setIn right)) 3 (rule .used) k
+    ensures { λ r. ⌜ Makes (triple recordSets (rule .node) (splitAt (rule .own) 0 0 0 (b1, b2)) (setIn left) (setIn right)) tripleRecords (rule .used) k
         (now (batch .entry)) r (now (batch .exit)) ⌝ }
 {
     let used = rule.used;
@@ -83,8 +85,8 @@ fn split(
     left: u64,
     right: u64,
 ) -> usize
-    requires { ⌜ (5 * k + 20 ≤ length (now batch)) × (rule .used + k ≤ 60644) ⌝ }
-    requires { ⌜ (rule .own + b1 + b2 < 16) × (rule .node < 65536) ⌝ }
+    requires { ⌜ RoomFor splitRecords (rule .used) k (now batch) ⌝ }
+    requires { ⌜ (rule .own + b1 + b2 < mostFlags) × (rule .node < fieldNumbers) ⌝ }
     requires { ⌜ (left ≤ rule .used + k + 1) × (right ≤ rule .used + k + 1) ⌝ }
     requires { ⌜ (rule .to + (rule .own + b1 + b2) < length (now work))
         × (slotAt (now work) (rule .to + (rule .own + b1 + b2)) ≤ rule .used + k + 1) ⌝ }
@@ -106,14 +108,14 @@ fn split(
 fn beside(batch: &mut [u16], work: &mut [u64], k: usize, rule: Branch, b1: usize) -> usize
     requires { ⌜ Room rule k (now batch) (now work) ⌝ }
     requires { ⌜ (b1 < rule .size) × (bitAnd (rule .own) b1 ≡ 0) ⌝ }
-    requires { ⌜ k + 4 * length (flagsAt (rule .own) (rule .size) b1) ≤ 648 ⌝ }
+    requires { ⌜ k + splitRecords * length (flagsAt (rule .own) (rule .size) b1) ≤ batchRecords ⌝ }
     ensures { λ r. ⌜ Runs (flagsAt (rule .own) (rule .size) b1) rule k
         (now (batch .entry)) (now (work .entry)) r (now (batch .exit)) (now (work .exit)) ⌝ }
 {
     let left = rule.left;
     let right = rule.right;
     let here = work[left + b1] % SETS;
-    if here == 0 {
+    if here == EMPTY {
         return k;
     }
     let mut count = k;
@@ -122,7 +124,7 @@ fn beside(batch: &mut [u16], work: &mut [u64], k: usize, rule: Branch, b1: usize
         let b2 = u64::trailing_zeros(marks) as usize;
         if ((rule.own + b1) & b2) == 0 {
             let there = work[right + b2] % SETS;
-            if there != 0 {
+            if there != EMPTY {
                 count = split(&mut *batch, &mut *work, count, rule, b1, b2, here, there);
             }
         }
@@ -134,7 +136,7 @@ fn beside(batch: &mut [u16], work: &mut [u64], k: usize, rule: Branch, b1: usize
 // A branch rule that matches: its splits, for each b1 ascending that shares no bit with the own flag and then for each such b2. The
 // marks of the left shelf are taken likewise.
 pub(crate) fn branch_rule(batch: &mut [u16], work: &mut [u64], k: usize, rule: Branch) -> usize
-    requires { ⌜ Room rule k (now batch) (now work) × (k ≤ 324) ⌝ }
+    requires { ⌜ Room rule k (now batch) (now work) × (k ≤ ruleRecords) ⌝ }
     ensures { λ r. ⌜ Branches rule k (now (batch .entry)) (now (work .entry)) r (now (batch .exit)) (now (work .exit)) ⌝ }
 {
     let left = rule.left;

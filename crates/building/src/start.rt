@@ -3,6 +3,7 @@ ghost use mathlib.Core.Path.{_≡_};
 ghost use Prim.Native.Nat.{min};
 ghost use Rattle.paper.specs.Refusals.{answer};
 ghost use Rattle.stream.specs.Reading.{treeReply, queryReply};
+ghost use Rattle.building.specs.Bounds.{mostRecords};
 ghost use Rattle.building.specs.Start.{Begins};
 use crate::frame::frame_width;
 use crate::node::start_node;
@@ -21,11 +22,18 @@ pub(crate) enum Begun {
     Refused(Refusal),
 }
 
+// A set has at most so many records, however long the table.
+const MOST_RECORDS: usize = 60000;
+
 // How many records fit in a table of so many entries.
 fn record_limit(entries: usize) -> usize
-    ensures { λ r. ⌜ r ≡ min entries 60000 ⌝ }
+    ensures { λ r. ⌜ r ≡ min entries mostRecords ⌝ }
 {
-    if entries < 60000 { entries } else { 60000 }
+    if entries < MOST_RECORDS {
+        entries
+    } else {
+        MOST_RECORDS
+    }
 }
 
 // The first node of a tree and a query that are read, if the work is as long as they ask. The table has so many entries.

@@ -5,13 +5,14 @@ use native.Mathlib.Nat.{mul-comm}
 use native.Mathlib.Omega.{arith}
 use borrow.Author.Needs.{needs}
 use lib.Pow.{shl-exact}
+use Rattle.building.specs.Bounds.{slotSets}
 use Rattle.building.proofs.Slots.{set-put, slot-fits}
 use Rattle.building.proofs.slot.put_set.Statement.{statement}
 use Rattle.building.proofs.slot.put_set.Tie as tie
 
 -- the mark of the flag fits
-mark : (c : tie.Start) → (65536 * 2 ^ c .args .flag) % 2 ^ 64 ≡ 2 ^ c .args .flag * 2 ^ 16
-mark c = shl-exact {a = 65536} 17 (c .args .flag) 64 (omega arith) (omega arith) ∙ mul-comm 65536 (2 ^ c .args .flag)
+mark : (c : tie.Start) → (slotSets * 2 ^ c .args .flag) % 2 ^ 64 ≡ 2 ^ c .args .flag * 2 ^ 16
+mark c = shl-exact {a = slotSets} 17 (c .args .flag) 64 (omega arith) (omega arith) ∙ mul-comm slotSets (2 ^ c .args .flag)
 
 add-at : tie.Need-add-at
 add-at c = omega arith
