@@ -1,4 +1,5 @@
-// The end of the building: the root's slots of all places.
+// The end of the building: the root's slots of all places, of the accepting states, are united. They are
+// in the frame of the present node, which is the root, since no node is left behind it.
 ghost use Prim.Native.Nat.{_+_, _≤_, _<_};
 ghost use lib.ListN.{length};
 ghost use Rattle.building.specs.Bounds.{batchNumbers, ruleRecords};
@@ -14,7 +15,8 @@ use crate::state::State;
 use crate::state::count_records;
 use stream::is_accepting;
 
-// One more state: if it is accepting, its slot of all places is united on the right of those before.
+// One more state: if it is accepting, its slot of all places is united on the right of those before. The
+// first is united with empty, which makes no record: so they are at most one less than those states.
 fn unite_root(
     t: State,
     input: &[u8],
@@ -31,6 +33,7 @@ fn unite_root(
     if !is_accepting(input, t.rules, state as u8) {
         return made;
     }
+    // A row has a node at each place: the flag with all its bits, the last one.
     let places = flags(t.arity) - 1;
     let at = shelf_at(t.arity, t.states, t.top, state) + places;
     union(
@@ -44,7 +47,8 @@ fn unite_root(
     )
 }
 
-// All states, ascending.
+// All states, ascending. The loop ends at the last. It makes at most one record a state, so at most 16: a
+// batch that has room for another rule has room for these.
 fn unite_roots(t: State, input: &[u8], work: &[u64], batch: &mut [u16]) -> Made
     requires { ⌜ IsStanding (now input) t (now work) ⌝ }
     requires { ⌜ (batchNumbers ≤ length (now batch)) × (t .count ≤ ruleRecords) ⌝ }
@@ -62,7 +66,7 @@ fn unite_roots(t: State, input: &[u8], work: &[u64], batch: &mut [u16]) -> Made
     made
 }
 
-// The end of the building.
+// The last turn: the building stops, with the set or past the limit. Past it the set is not looked at.
 pub(crate) fn roots(t: State, input: &[u8], work: &[u64], batch: &mut [u16]) -> State
     requires { ⌜ IsFilling (now input) t (now work) (now batch) ⌝ }
     requires { ⌜ (length (now input) ≤ t .rule) × (t .nodes ≤ t .node + 1) ⌝ }
