@@ -23,9 +23,9 @@ use Rattle.building.specs.Standing.{State, Standing, Stopped, Stepped, I
 use Rattle.building.specs.Driving.{Ready, Driven}
 use Rattle.building.proofs.Storing.{stored-behind}
 use Rattle.building.proofs.StateShape.{shape, from-field, count-field}
-use Rattle.building.proofs.step.step.Symbol as step-def
-use Rattle.building.proofs.step.step.Symbol.{name as #step}
-use Rattle.building.proofs.step.step.Met as step-thm
+use Rattle.building.proofs.filling.step.Symbol as step-def
+use Rattle.building.proofs.filling.step.Symbol.{name as #step}
+use Rattle.building.proofs.filling.step.Met as step-thm
 use Rattle.building.proofs.drive.Key.{name as #drive}
 use Rattle.building.proofs.drive as drive
 use Rattle.building.proofs.drive.Statement as stated
@@ -123,6 +123,6 @@ drive-spec 𝓤 H 𝓜 𝓖 𝓡 =
     (building-meets u64 shape storer from-field count-field law 𝓤 H (𝓖 .A) (givenOf 𝓤 H 𝓜 𝓖) (tyInt w64) #step #table·store
     (tablesOf 𝓤 H 𝓜 (tables 𝓤 H 𝓜 𝓡 code.env))
     (cited 𝓤 H (Step u64 shape storer from-field count-field law 𝓤 H (𝓖 .A)) 𝓜 𝓡 code.env #step step-def.routine
-    code.calls-building·step·step (step-thm.met 𝓤 H 𝓜 𝓖 𝓡))
+    code.calls-building·filling·step (step-thm.met 𝓤 H 𝓜 𝓖 𝓡))
     (cited 𝓤 H (Store storer 𝓤 H (𝓖 .A)) 𝓜 𝓡 code.env #table·store store-def.routine
     code.calls-table·store (store-thm.met 𝓤 H 𝓜 𝓖 𝓡)))

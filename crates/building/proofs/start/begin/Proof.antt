@@ -1,10 +1,10 @@
--- `whole::begin` reads the tree, then the query, and starts.
+-- `start::begin` reads the tree, then the query, and starts.
 use mathlib.Core.Path.{_∙_, ap, refl, sym}
 use borrow.Author.Needs.{needs}
 use Rattle.stream.specs.Reading.{saysQuery, saysTree}
 use Rattle.building.proofs.Beginning.{query-refused-at, tree-refused}
-use Rattle.building.proofs.whole.begin.Statement.{statement}
-use Rattle.building.proofs.whole.begin.Tie as tie
+use Rattle.building.proofs.start.begin.Statement.{statement}
+use Rattle.building.proofs.start.begin.Tie as tie
 
 read-tree-requires : tie.Need-read-tree-requires
 read-tree-requires c κs = tt

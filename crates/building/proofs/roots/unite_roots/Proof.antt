@@ -1,13 +1,13 @@
--- `ending::unite_roots` unites the slots of all accepting states, a state a turn.
+-- `roots::unite_roots` unites the slots of all accepting states, a state a turn.
 use mathlib.Core.Path.{_∙_, _≡_, refl, subst}
 use Prim.Native.Nat.{_+_, _-_, _≤_}
 use native.Mathlib.Omega.{arith}
 use lib.ListN.{length}
 use Rattle.building.specs.Roots.{UnitedTo}
 use Rattle.building.proofs.Present.{few-states-here}
-use Rattle.building.proofs.Roots.{united-none}
-use Rattle.building.proofs.ending.unite_roots.Statement.{statement}
-use Rattle.building.proofs.ending.unite_roots.Tie as tie
+use Rattle.building.proofs.UnitedRoots.{united-none}
+use Rattle.building.proofs.roots.unite_roots.Statement.{statement}
+use Rattle.building.proofs.roots.unite_roots.Tie as tie
 
 abbrev Inv-loop : tie.InvT-loop
 Inv-loop t input work batch₀ made₀ state₀ batch made state =

@@ -1,9 +1,9 @@
--- `whole::finish` clears the work and gives the answer.
+-- `answer::finish` clears the work and gives the answer.
 use native.Mathlib.Omega.{arith}
 use borrow.Author.Needs.{needs}
 use Rattle.building.proofs.Finishing.{HeadFits, finished-answer, finished-refused, head-fits}
-use Rattle.building.proofs.whole.finish.Statement.{statement}
-use Rattle.building.proofs.whole.finish.Tie as tie
+use Rattle.building.proofs.answer.finish.Statement.{statement}
+use Rattle.building.proofs.answer.finish.Tie as tie
 
 -- what is known where the building has not stopped at the limit
 small : (c : tie.Else1) → HeadFits (c .before .before .before .before .before .before .args .t)

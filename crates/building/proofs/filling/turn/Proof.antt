@@ -1,9 +1,9 @@
--- `step::turn` hands over to one of four turns.
+-- `filling::turn` hands over to one of four turns.
 use mathlib.Core.Path.{refl}
 use native.Mathlib.Omega.{arith}
 use Rattle.building.proofs.Present.{few-nodes, inside-here}
-use Rattle.building.proofs.step.turn.Statement.{statement}
-use Rattle.building.proofs.step.turn.Tie as tie
+use Rattle.building.proofs.filling.turn.Statement.{statement}
+use Rattle.building.proofs.filling.turn.Tie as tie
 
 shared-slice-read-if2 : tie.Need-shared-slice-read-if2
 shared-slice-read-if2 c =

@@ -1,9 +1,9 @@
--- `ending::roots` stops the building with the set of the root.
+-- `roots::roots` stops the building with the set of the root.
 use mathlib.Core.Path.{refl}
 use borrow.Author.Needs.{needs}
 use Rattle.building.proofs.Stopping.{roots-stepped}
-use Rattle.building.proofs.ending.roots.Statement.{statement}
-use Rattle.building.proofs.ending.roots.Tie as tie
+use Rattle.building.proofs.roots.roots.Statement.{statement}
+use Rattle.building.proofs.roots.roots.Tie as tie
 
 unite-roots-requires : tie.Need-unite-roots-requires
 unite-roots-requires c κs =

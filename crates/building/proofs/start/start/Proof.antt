@@ -1,10 +1,10 @@
--- `whole::start` refuses work that is too short, or comes to the first node.
+-- `start::start` refuses work that is too short, or comes to the first node.
 use mathlib.Core.Path.{refl}
 use native.Mathlib.Omega.{arith}
 use borrow.Author.Needs.{needs}
 use Rattle.building.proofs.Beginning.{ReadFacts, asked-fits, asked-is, comes-first, first-started, read-facts, short-work, small}
-use Rattle.building.proofs.whole.start.Statement.{statement}
-use Rattle.building.proofs.whole.start.Tie as tie
+use Rattle.building.proofs.start.start.Statement.{statement}
+use Rattle.building.proofs.start.start.Tie as tie
 
 -- what was read
 facts : (c : tie.Start) → ReadFacts (c .args .input .now) (c .args .tree) (c .args .query)

@@ -1,4 +1,4 @@
--- `step::step` takes turns with a new batch. The loop's invariant: the building stands, or has stopped, with what is in the batch.
+-- `filling::step` takes turns with a new batch. The loop's invariant: the building stands, or has stopped, with what is in the batch.
 use mathlib.Core.Bool.{false}
 use mathlib.Core.List.{List}
 use mathlib.Core.Logic.{_⊎_, inl, inr}
@@ -8,11 +8,12 @@ use native.Mathlib.Omega.{arith}
 use borrow.Author.Tests.{leb-false, leb-true}
 use lib.ListN.{length}
 use Rattle.building.specs.Batch.{Record}
+use Rattle.building.specs.Bounds.{ruleRecords}
 use Rattle.building.specs.Standing.{Filling, Turned, turnsLeft}
 use Rattle.building.specs.States.{emptied}
 use Rattle.building.proofs.TurnLoop.{Filled, emptied-filling, emptied-stepped, filled-ends, filled-filling, filled-onward, filled-starts}
-use Rattle.building.proofs.step.step.Statement.{statement}
-use Rattle.building.proofs.step.step.Tie as tie
+use Rattle.building.proofs.filling.step.Statement.{statement}
+use Rattle.building.proofs.filling.step.Tie as tie
 
 abbrev Inv-loop : tie.InvT-loop
 Inv-loop input work₀ batch₀ s₀ work batch s =
@@ -43,7 +44,7 @@ standing c =
 ended : (c : tie.At-loop Inv-loop μ-loop)
     → let start = c .before .before .before .before .before in
     let a = start .args in
-    ((c .loop .s .going ≡ false) ⊎ (324 < c .loop .s .count)) → Turned (a .input .now) (a .t) (a .work .now) (c .loop .s) (c .loop .work) (c .loop .batch)
+    ((c .loop .s .going ≡ false) ⊎ (ruleRecords < c .loop .s .count)) → Turned (a .input .now) (a .t) (a .work .now) (c .loop .s) (c .loop .work) (c .loop .batch)
 ended c stop made s few =
     let a = c .before .before .before .before .before .args in
     emptied-stepped (a .input .now) (a .t) (a .work .now) (a .batch .now) made s
@@ -64,7 +65,7 @@ turn-requires : tie.Need-turn-requires Inv-loop μ-loop
 turn-requires c κs =
     let t = c .before .before in
     let start = t .before .before .before .before .before .before .before .before in
-    ((_, standing t), (omega (arith, start .pre .1, t .before .before .before .loop .inv .0), leb-true _ 324 (t .if1 .taken)))
+    ((_, standing t), (omega (arith, start .pre .1, t .before .before .before .loop .inv .0), leb-true _ ruleRecords (t .if1 .taken)))
 
 loop-less : tie.Need-loop-less Inv-loop μ-loop
 loop-less c =
@@ -90,7 +91,7 @@ same-length-2 : tie.Need-same-length-2 Inv-loop μ-loop
 same-length-2 c = c .before .before .before .loop .inv .0
 
 returns : tie.Need-returns Inv-loop μ-loop
-returns c = ended (c .before .before .before) (inr (leb-false _ 324 (c .if1 .left)))
+returns c = ended (c .before .before .before) (inr (leb-false _ ruleRecords (c .if1 .left)))
 
 same-length-3 : tie.Need-same-length-3 Inv-loop μ-loop
 same-length-3 c = c .before .loop .inv .1

@@ -1,16 +1,15 @@
-// The beginning and the end of a build.
+// The start of a build: the tree and the query are read, the work is measured, and the building stands at
+// its first node. The paper's order of the refusals is the order here: 1 and 2, 3 and 4, then 5.
 ghost use mathlib.Core.Path.{_≡_};
 ghost use Prim.Native.Nat.{min};
 ghost use Rattle.paper.specs.Refusals.{answer};
 ghost use Rattle.stream.specs.Reading.{treeReply, queryReply};
-ghost use Rattle.building.specs.Whole.{Begins, Ended, Finishes};
-use crate::frame::clear;
-use crate::frame::flags;
+ghost use Rattle.building.specs.Bounds.{mostRecords};
+ghost use Rattle.building.specs.Start.{Begins};
+use crate::batch::EMPTY;
 use crate::frame::frame_width;
 use crate::node::start_node;
 use crate::state::State;
-use paper::Built;
-use paper::Head;
 use paper::Refusal;
 use stream::QueryFacts;
 use stream::QueryRead;
@@ -18,7 +17,6 @@ use stream::TreeFacts;
 use stream::TreeRead;
 use stream::read_query;
 use stream::read_tree;
-use table::set_of;
 
 // The building stands at its first node, or is refused with 1 to 5.
 pub(crate) enum Begun {
@@ -26,14 +24,22 @@ pub(crate) enum Begun {
     Refused(Refusal),
 }
 
+// A set has at most so many records, however long the table: so a set's number fits 16 bits.
+const MOST_RECORDS: usize = 60000;
+
 // How many records fit in a table of so many entries.
 fn record_limit(entries: usize) -> usize
-    ensures { λ r. ⌜ r ≡ min entries 60000 ⌝ }
+    ensures { λ r. ⌜ r ≡ min entries mostRecords ⌝ }
 {
-    if entries < 60000 { entries } else { 60000 }
+    if entries < MOST_RECORDS {
+        entries
+    } else {
+        MOST_RECORDS
+    }
 }
 
-// The first node of a tree and a query that are read, if the work is as long as they ask. The table has so many entries.
+// The first node of a tree and a query that are read, if the work is as long as they ask. The table has so
+// many entries. The work is not touched before that is known, since refusal 5 leaves it as it was.
 fn start(
     input: &[u8],
     work: &mut [u64],
@@ -45,10 +51,13 @@ fn start(
     requires { ⌜ answer query ≡ queryReply (now input) (tree .end) ⌝ }
     ensures { λ r. ⌜ Begins (now (input .entry)) (now (work .entry)) entries r (now (work .exit)) ⌝ }
 {
+    // A frame for each of the most subtrees ever unjoined, and one for the present node. At most 4,096
+    // frames of at most 256 numbers: a usize holds far more.
     let asked = (1 + tree.most) * frame_width(query.arity, query.states);
     if work.len() < asked {
         return Begun::Refused(Refusal::ShortWork);
     }
+    // Where the first node stands, and its first rule, `start_node` says.
     let t = State {
         from: 0,
         count: 0,
@@ -56,7 +65,7 @@ fn start(
         node: 0,
         top: 0,
         rule: 0,
-        set: 0,
+        set: EMPTY,
         nodes: tree.nodes,
         rules: query.rules,
         arity: query.arity,
@@ -69,6 +78,8 @@ fn start(
     Begun::Going(start_node(t, 0, 0, 0, input, &mut *work))
 }
 
+// The tree, then the query behind it: the first that is refused ends the build. What is kept of them is a
+// few counts; the rules are read again, where they stand, at each node.
 pub(crate) fn begin(input: &[u8], work: &mut [u64], entries: usize) -> Begun
     ensures { λ r. ⌜ Begins (now (input .entry)) (now (work .entry)) entries r (now (work .exit)) ⌝ }
 {
@@ -79,24 +90,4 @@ pub(crate) fn begin(input: &[u8], work: &mut [u64], entries: usize) -> Begun
             QueryRead::Query(query) => start(input, &mut *work, entries, tree, query),
         },
     }
-}
-
-// The answer of a build that has stopped, or its refusal with 6. The work is cleared.
-pub(crate) fn finish(t: State, work: &mut [u64]) -> Built
-    requires { ⌜ Ended t (now work) ⌝ }
-    ensures { λ r. ⌜ Finishes t (now (work .entry)) r (now (work .exit)) ⌝ }
-{
-    clear(&mut *work, 0, t.asked);
-    if t.over {
-        return Built::Refused(Refusal::ShortTable);
-    }
-    let places = flags(t.arity) - 1;
-    let set = set_of(t.set as u16);
-    Built::Set(Head {
-        nodes: t.nodes as u16,
-        arity: t.arity as u16,
-        open_places: places as u16,
-        used: (t.from + t.count) as u16,
-        set: set,
-    })
 }

@@ -1,12 +1,12 @@
--- `ending::unite_root` unites the slot of one more state, if that is accepting.
+-- `roots::unite_root` unites the slot of one more state, if that is accepting.
 use Prim.Native.Nat.{_+_, _-_, _<_, _≤_}
 use native.Mathlib.Omega.{arith}
 use borrow.Author.Needs.{needs}
 use lib.ListN.{length}
 use Rattle.building.specs.Slots.{slotAt}
-use Rattle.building.proofs.Roots.{RootReady, next-skipped, next-united, root-ready}
-use Rattle.building.proofs.ending.unite_root.Statement.{statement}
-use Rattle.building.proofs.ending.unite_root.Tie as tie
+use Rattle.building.proofs.UnitedRoots.{RootReady, next-skipped, next-united, root-ready}
+use Rattle.building.proofs.roots.unite_root.Statement.{statement}
+use Rattle.building.proofs.roots.unite_root.Tie as tie
 
 -- what is known from the start
 ready : (c : tie.Start) → RootReady (c .args .input .now) (c .args .t) (c .args .work .now) (c .args .state)
@@ -33,19 +33,19 @@ flags-requires c κs = omega (arith, ready (c .before .before .before .before .b
 sub-places : tie.Need-sub-places
 sub-places c = omega (arith, ready (c .before .before .before .before .before .before))
 
-row-at-requires : tie.Need-row-at-requires
-row-at-requires c κs =
+shelf-at-requires : tie.Need-shelf-at-requires
+shelf-at-requires c κs =
     let start = c .before .before .before .before .before .before in
     omega (arith, ready start, start .pre)
 
-abbrev start : tie.After-row-at → tie.Start
+abbrev start : tie.After-shelf-at → tie.Start
 start c = c .before .before .before .before .before .before .before
 
 -- the slot of all places is in the work, and its set at hand
-slot : (c : tie.After-row-at) → let s = start c in
-    (c .row-at .result + (c .before .flags .result - 1) < length (s .args .work .now))
-    × (slotAt (s .args .work .now) (c .row-at .result + (c .before .flags .result - 1)) ≤ s .args .t .from + s .args .t .count + 1)
-slot c = ready (start c) .slot (c .row-at .ensures) (c .before .flags .ensures)
+slot : (c : tie.After-shelf-at) → let s = start c in
+    (c .shelf-at .result + (c .before .flags .result - 1) < length (s .args .work .now))
+    × (slotAt (s .args .work .now) (c .shelf-at .result + (c .before .flags .result - 1)) ≤ s .args .t .from + s .args .t .count + 1)
+slot c = ready (start c) .slot (c .shelf-at .ensures) (c .before .flags .ensures)
 
 add-at : tie.Need-add-at
 add-at c = omega (arith, slot c, (start c) .good)
@@ -61,15 +61,15 @@ shared-slice-read-union c = slot (c .before .before .before) .0
 
 union-requires : tie.Need-union-requires
 union-requires c κs =
-    let row = c .before .before .before in
-    let s = start row in
+    let shelf = c .before .before .before in
+    let s = start shelf in
     omega (
       arith,
       ready s,
-      slot row,
+      slot shelf,
       s .pre,
       s .pre .0 .0 .1 .constants .limit,
-      row .before .flags .ensures,
+      shelf .before .flags .ensures,
     )
 
 same-length : tie.Need-same-length
@@ -77,13 +77,13 @@ same-length c = search needs
 
 returns-2 : tie.Need-returns-2
 returns-2 c =
-    let row = c .before .before .before .before .before .before in
-    let asked = row .before .before .before in
-    let s = start row in
+    let shelf = c .before .before .before .before .before .before in
+    let asked = shelf .before .before .before in
+    let s = start shelf in
     let a = s .args in
     next-united (a .input .now) (a .t) (a .work .now) (s .pre .0 .0 .1 .constants) (a .state) (a .made) (s .pre .1 .1 .0) (s .pre .1 .1 .1)
-    (s .pre .1 .1 .2) (a .batch .now) (asked .is-accepting .result) (asked .is-accepting .ensures) (row .before .before .if1 .left) (s .pre .1 .0 .0)
-    (row .row-at .ensures) (row .before .flags .ensures) (c .before .before .union .ensures)
+    (s .pre .1 .1 .2) (a .batch .now) (asked .is-accepting .result) (asked .is-accepting .ensures) (shelf .before .before .if1 .left) (s .pre .1 .0 .0)
+    (shelf .shelf-at .ensures) (shelf .before .flags .ensures) (c .before .before .union .ensures)
 
 pub unite-root-spec : {M : Type 1} → statement M
 unite-root-spec =
@@ -94,7 +94,7 @@ unite-root-spec =
     returns
     flags-requires
     sub-places
-    row-at-requires
+    shelf-at-requires
     add-at
     cast-union
     mul-union

@@ -16,7 +16,8 @@ use Rattle.paper.specs.Query.{acceptingOf}
 use Rattle.paper.specs.Refusals.{queryIn}
 use Rattle.paper.specs.Stream.{recordsOf}
 use Rattle.building.specs.Batch.{Made, Makes, Record, Set, empty, recordsIn, setIn}
-use Rattle.building.specs.Branches.{rowFrom}
+use Rattle.building.specs.Bounds.{mostFlags}
+use Rattle.building.specs.Branches.{shelfFrom}
 use Rattle.building.specs.Frames.{width}
 use Rattle.building.specs.Roots.{UnitedTo, UnitesNext, unitedTo}
 use Rattle.building.specs.Slots.{slotAt}
@@ -60,7 +61,7 @@ module _ (input : List ℕ) (t : State) (work batch : List ℕ) where
 
     -- an accepting state's slot is united on the right
     united-more : found ≡ true → q < t .states → {places slot : ℕ} {m′ : Made} {batch₂ : List ℕ} → places ≡ 2 ^ t .arity - 1
-        → slot ≡ rowFrom t (t .top) q + places
+        → slot ≡ shelfFrom t (t .top) q + places
         → Makes (unionRecord (t .node) places (setIn (m .set)) (setIn (slotAt work slot))) 1 (t .from) (m .count) batch₁ m′ batch₂
         → UnitedTo input t work (q + 1) batch m′ batch₂
     united-more one hq {places} {slot} {m′} {batch₂} e₁ e₂ u slots f = record {
@@ -81,7 +82,7 @@ module _ (input : List ℕ) (t : State) (work batch : List ℕ) where
 
         right : setIn (slotAt work slot) ≡ slots q all
         right =
-            ap (λ n. setIn (slotAt work n)) (e₂ ∙ ap (λ b. rowFrom t (t .top) q + b) all-places)
+            ap (λ n. setIn (slotAt work n)) (e₂ ∙ ap (λ b. shelfFrom t (t .top) q + b) all-places)
             ∙ sym (f .sets q all hq (omega (arith, all-places, e₁, ones-lt (t .arity))))
 
         united : Makes (λ table. unionRecord (t .node) all ((unitedTo input t slots q table) .1) (slots q all) ((unitedTo input t slots q table) .0))
@@ -94,10 +95,10 @@ module _ (input : List ℕ) (t : State) (work batch : List ℕ) where
 -- ---- what the code asks of the numbers, and has done
 pub record RootReady (input : List ℕ) (t : State) (work : List ℕ) (q : ℕ) : Type 0 where
   pub node : NodeReady input t work
-  pub few-flags : 2 ^ t .arity ≤ 16
+  pub few-flags : 2 ^ t .arity ≤ mostFlags
   pub some-flag : 1 ≤ 2 ^ t .arity
-  pub slot : {row size : ℕ} → row ≡ rowFrom t (t .top) q → size ≡ 2 ^ t .arity
-      → (row + (size - 1) < length work) × (slotAt work (row + (size - 1)) ≤ t .from + t .count + 1)
+  pub slot : {shelf size : ℕ} → shelf ≡ shelfFrom t (t .top) q → size ≡ 2 ^ t .arity
+      → (shelf + (size - 1) < length work) × (slotAt work (shelf + (size - 1)) ≤ t .from + t .count + 1)
 
 pub root-ready : (input : List ℕ) (t : State) (work : List ℕ) (made : List Record) → Standing input t work made → (q : ℕ) → q < t .states
     → RootReady input t work q
@@ -105,19 +106,19 @@ root-ready input t work made s q hq = record {
   node = node-ready input t work (s .constants) (s .node) (s .frames .room);
   few-flags = flags-at-most (t .arity) (small-arity-here input t (s .constants) (s .node));
   some-flag = pow-pos (t .arity);
-  slot = λ {row} {size} e₁ e₂.
+  slot = λ {shelf} {size} e₁ e₂.
       subst₂ (λ r b. (r + (b - 1) < length work) × (slotAt work (r + (b - 1)) ≤ t .from + t .count + 1)) (sym e₁) (sym e₂) at-places;
 }
   where
-    at-places : (rowFrom t (t .top) q + (2 ^ t .arity - 1) < length work)
-        × (slotAt work (rowFrom t (t .top) q + (2 ^ t .arity - 1)) ≤ t .from + t .count + 1)
+    at-places : (shelfFrom t (t .top) q + (2 ^ t .arity - 1) < length work)
+        × (slotAt work (shelfFrom t (t .top) q + (2 ^ t .arity - 1)) ≤ t .from + t .count + 1)
     at-places =
         let size : ℕ = width (t .arity) (t .states) in
         let b : ℕ = 2 ^ t .arity - 1 in
         let below : q * 2 ^ t .arity + b < size = slot-below (t .arity) (t .states) q b hq (ones-lt (t .arity)) in
         let top : t .top * size ≡ length (s .node .stack) * size = ap (λ x. x * size) (s .node .high) in (
           omega (arith, frame-room input t (s .constants) (s .node), s .frames .room),
-          s .frames .low (rowFrom t (t .top) q + b) (omega (arith, suc-mul (length (s .node .stack)) size)),
+          s .frames .low (shelfFrom t (t .top) q + b) (omega (arith, suc-mul (length (s .node .stack)) size)),
         )
 
 module _ (input : List ℕ) (t : State) (work : List ℕ) (k : Constants input t) (q : ℕ) (m : Made) (more : t .count ≤ m .count)
@@ -131,11 +132,11 @@ module _ (input : List ℕ) (t : State) (work : List ℕ) (k : Constants input t
     unites = λ first done. united-skip input t work first k q found e m batch done (not-true found none);
   }
 
-  pub next-united : not found ≡ false → q < t .states → {row size : ℕ} {m′ : Made} {batch′ : List ℕ} → row ≡ rowFrom t (t .top) q
+  pub next-united : not found ≡ false → q < t .states → {shelf size : ℕ} {m′ : Made} {batch′ : List ℕ} → shelf ≡ shelfFrom t (t .top) q
       → size ≡ 2 ^ t .arity
-      → Makes (unionRecord (t .node) (size - 1) (setIn (m .set)) (setIn (slotAt work (row + (size - 1))))) 1 (t .from) (m .count) batch m′ batch′
+      → Makes (unionRecord (t .node) (size - 1) (setIn (m .set)) (setIn (slotAt work (shelf + (size - 1))))) 1 (t .from) (m .count) batch m′ batch′
       → UnitesNext input t work q m batch m′ batch′
-  next-united one hq {row} {size} e₁ e₂ u = record {
+  next-united one hq {shelf} {size} e₁ e₂ u = record {
     more = omega (arith, u .more);
     few = omega (arith, u .few);
     at-hand = u .at-hand;
