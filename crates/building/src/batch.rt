@@ -14,9 +14,13 @@ ghost use Rattle.paper.specs.Building.{newRecord, singleRecord, productRecord, 
 ghost use Rattle.building.specs.Batch.{recordsIn, setIn, Makes, RoomFor};
 ghost use Rattle.building.specs.Bounds.{mostFlags, recordNumbers};
 use paper::Record;
-
-// A record is five numbers of the batch, in the order of its fields: kind, node, left, right, flag.
-const RECORD_NUMBERS: usize = 5;
+use paper::kinds::PRODUCT;
+use paper::kinds::SINGLE;
+use paper::kinds::UNION;
+use table::EMPTY;
+use table::FIRST_RECORD;
+use table::RECORD_NUMBERS;
+use table::UNIT;
 
 // A split makes at most a single, two products and a union.
 const SPLIT_RECORDS: usize = 4;
@@ -33,20 +37,6 @@ pub(crate) const RULE_RECORDS: usize = SPLIT_RECORDS * RULE_SPLITS;
 const BATCH_RECORDS: usize = 2 * RULE_RECORDS;
 
 pub(crate) const BATCH_NUMBERS: usize = RECORD_NUMBERS * BATCH_RECORDS;
-
-// The kinds of a record.
-const SINGLE: u16 = 1;
-
-const UNION: u16 = 2;
-
-const PRODUCT: u16 = 3;
-
-// A set is a number: empty, unit, or two more than that of its record.
-pub(crate) const EMPTY: u64 = 0;
-
-const UNIT: u64 = 1;
-
-const FIRST_RECORD: u64 = 2;
 
 // How many records stand in the batch, and the set that was made.
 pub(crate) struct Made {

@@ -5,12 +5,12 @@ ghost use lib.ListN.{length};
 ghost use Rattle.building.specs.Bounds.{batchNumbers, ruleRecords};
 ghost use Rattle.building.specs.Standing.{IsStanding, IsFilling, Turned, Fills};
 use crate::batch::RULE_RECORDS;
-use crate::kind::LEAF;
 use crate::node::branch_rules;
 use crate::node::leaf_rules;
 use crate::node::next_node;
 use crate::roots::roots;
 use crate::state::State;
+use paper::kinds::LEAF;
 
 // Rules of the present node, a leaf or a branch, or the next node where no rule is left, or the end where
 // no node is left. A turn does one of these and no more: all four keep one contract, which the loop needs.

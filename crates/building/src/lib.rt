@@ -21,7 +21,6 @@ mod answer;
 mod batch;
 mod filling;
 mod frame;
-mod kind;
 mod node;
 mod roots;
 mod rule;

@@ -5,7 +5,6 @@ ghost use lib.ListN.{length};
 ghost use Rattle.building.specs.Bounds.{batchNumbers, ruleRecords};
 ghost use Rattle.building.specs.Roots.{UnitedTo, UnitesNext};
 ghost use Rattle.building.specs.Standing.{IsStanding, IsFilling, Fills};
-use crate::batch::EMPTY;
 use crate::batch::Made;
 use crate::batch::union;
 use crate::frame::flags;
@@ -14,6 +13,7 @@ use crate::slot::SETS;
 use crate::state::State;
 use crate::state::count_records;
 use stream::is_accepting;
+use table::EMPTY;
 
 // One more state: if it is accepting, its slot of all places is united on the right of those before. The
 // first is united with empty, which makes no record: so they are at most one less than those states.

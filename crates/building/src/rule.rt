@@ -10,13 +10,13 @@ ghost use Rattle.building.specs.Batch.{setIn, Makes, RoomFor};
 ghost use Rattle.building.specs.Bounds.{batchRecords, fieldNumbers, mostFlags, ruleRecords, splitRecords, tripleRecords};
 ghost use Rattle.building.specs.Rules.{splitAt, flagsAt, Unites, Leaves, Branches, Room, Runs};
 ghost use Rattle.building.specs.Slots.{slotAt};
-use crate::batch::EMPTY;
 use crate::batch::Made;
 use crate::batch::product;
 use crate::batch::single;
 use crate::batch::union;
 use crate::slot::SETS;
 use crate::slot::put_set;
+use table::EMPTY;
 
 // A branch rule at a node: the records in the table, the node, how many flags there are, the rule's own
 // flag, and where in work the shelves of its left state, its right state and the state that it names

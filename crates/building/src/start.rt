@@ -6,26 +6,24 @@ ghost use Rattle.paper.specs.Refusals.{answer};
 ghost use Rattle.stream.specs.Reading.{treeReply, queryReply};
 ghost use Rattle.building.specs.Bounds.{mostRecords};
 ghost use Rattle.building.specs.Start.{Begins};
-use crate::batch::EMPTY;
 use crate::frame::frame_width;
 use crate::node::start_node;
 use crate::state::State;
 use paper::Refusal;
+use paper::limits::MOST_RECORDS;
 use stream::QueryFacts;
 use stream::QueryRead;
 use stream::TreeFacts;
 use stream::TreeRead;
 use stream::read_query;
 use stream::read_tree;
+use table::EMPTY;
 
 // The building stands at its first node, or is refused with 1 to 5.
 pub(crate) enum Begun {
     Going(State),
     Refused(Refusal),
 }
-
-// A set has at most so many records, however long the table: so a set's number fits 16 bits.
-const MOST_RECORDS: usize = 60000;
 
 // How many records fit in a table of so many entries.
 fn record_limit(entries: usize) -> usize

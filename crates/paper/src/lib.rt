@@ -1,9 +1,13 @@
 // The plain types that document 01 speaks of: a record of the table, a set and its head, the two fixed names, the refusals, and
-// an answer for each call. What they mean stands in specs/, section by section; specs/Answers.antt has the number of each refusal.
+// an answer for each call. The kinds of records and the limits have files of their own. What they mean stands in specs/, section
+// by section; specs/Answers.antt has the number of each refusal.
 ghost use mathlib.Core.Path.{_≡_};
 ghost use Rattle.paper.specs.Answers.{numberOf};
 
-// One entry of the lent table: kind 1 is a single, 2 a union, 3 a product. All zeros is the blank entry. Each number of document 01
+pub mod kinds;
+pub mod limits;
+
+// One entry of the lent table: a single, a union or a product, by its kind. All zeros is the blank entry. Each number of document 01
 // fits 16 bits, so an entry has ten bytes and no padding, and a C compiler lays it out the same: hence `repr(C)`.
 #[repr(C)]
 pub struct Record {

@@ -10,11 +10,11 @@ ghost use Rattle.stream.specs.OneRecord.{AtKind, wholeInRange, fits};
 ghost use Rattle.stream.specs.Positions.{recordAt};
 use crate::head::QueryFacts;
 use crate::lengths::body_length;
-use crate::record::ACCEPTING_STATE;
-use crate::record::BRANCH_RULE;
-use crate::record::HEAD;
-use crate::record::HIGHEST_LABEL;
-use crate::record::LEAF_RULE;
+use paper::kinds::ACCEPTING_STATE;
+use paper::kinds::BRANCH_RULE;
+use paper::kinds::LEAF_RULE;
+use paper::kinds::QUERY_HEAD;
+use paper::limits::HIGHEST_LABEL;
 
 // The arity is a head's that was read, so the shift gives at most 16.
 fn label_and_flag_fit(label: u8, flag: u8, arity: usize) -> bool
@@ -86,6 +86,6 @@ pub(crate) fn record_fits(input: &[u8], facts: QueryFacts, at: usize) -> bool
         ACCEPTING_STATE => state_fits(input, facts, at),
         // A second head, a tree record, an unknown kind: as ranges, so that every byte is listed,
         // which is the form that the paper asks for.
-        0..=HEAD | 20..=255 => false,
+        0..=QUERY_HEAD | 20..=255 => false,
     }
 }

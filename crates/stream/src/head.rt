@@ -6,14 +6,10 @@ ghost use lib.Dec.{leb};
 ghost use Rattle.stream.specs.OneRecord.{headReply};
 ghost use Rattle.stream.specs.Reading.{saysQuery};
 use crate::lengths::body_length;
-use crate::record::HEAD;
 use paper::Refusal;
-
-// The paper's limit. With it a flag is below 16.
-const MOST_ARITY: usize = 4;
-
-// The paper's limit. With it, and 16 flags, a node has at most 256 slots.
-const MOST_STATES: usize = 16;
+use paper::kinds::QUERY_HEAD;
+use paper::limits::MOST_PLACES;
+use paper::limits::MOST_STATES;
 
 // The query's arity and states, and where the records behind its head begin.
 pub struct QueryFacts {
@@ -42,17 +38,17 @@ pub(crate) fn query_head(input: &[u8], at: usize) -> QueryRead
     if input.len() <= at {
         return QueryRead::Refused(Refusal::Query);
     }
-    if input[at] != HEAD {
+    if input[at] != QUERY_HEAD {
         return QueryRead::Refused(Refusal::Query);
     }
     // Cut. Behind this test both numbers can be read.
-    let next = at + 1 + body_length(HEAD);
+    let next = at + 1 + body_length(QUERY_HEAD);
     if input.len() < next {
         return QueryRead::Refused(Refusal::Query);
     }
     let arity = input[at + 1] as usize;
     let states = input[at + 2] as usize;
-    if !within(arity, 1, MOST_ARITY) {
+    if !within(arity, 1, MOST_PLACES) {
         return QueryRead::Refused(Refusal::Query);
     }
     if !within(states, 1, MOST_STATES) {

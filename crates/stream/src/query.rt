@@ -14,14 +14,11 @@ use crate::head::QueryFacts;
 use crate::head::QueryRead;
 use crate::head::query_head;
 use crate::lengths::body_length;
-use crate::record::ACCEPTING_STATE;
 use crate::said::is_accepting;
 use crate::said::is_said;
 use paper::Refusal;
-
-// The paper's limit: one more rule is refused 3. Accepting states need none, as each is below the
-// head's states and said once.
-const MOST_RULES: usize = 1024;
+use paper::kinds::ACCEPTING_STATE;
+use paper::limits::MOST_RULES;
 
 // What the records behind the head up to a position make: so many rules. What they say is looked up
 // in the input where it is asked.

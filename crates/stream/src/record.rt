@@ -1,33 +1,11 @@
-// One record where it stands in the input: the kinds, each with its body, and the highest label, then
-// a byte of a record and the bytes that one begins with. Contracts do not name these constants: they
-// have the numbers, as the definitions of `paper` do.
+// One record where it stands in the input: a byte of it, and the bytes that it begins with. The kinds
+// of records have their names in `paper`; contracts have the numbers, as the definitions do.
 ghost use mathlib.Core.Path.{_≡_};
 ghost use Prim.Native.Nat.{_+_, _≤_, _<_};
 ghost use lib.ListN.{length, getD};
 ghost use Rattle.paper.specs.Stream.{bodyLength};
 ghost use Rattle.stream.specs.OneRecord.{saysFrom};
 ghost use Rattle.stream.specs.Positions.{recordAt};
-
-// A leaf: label.
-pub(crate) const LEAF: u8 = 1;
-
-// A branch, which joins the last two unjoined subtrees: label.
-pub(crate) const BRANCH: u8 = 2;
-
-// The head of the query: arity, states.
-pub(crate) const HEAD: u8 = 16;
-
-// A leaf rule: label, flag, state.
-pub(crate) const LEAF_RULE: u8 = 17;
-
-// A branch rule: label, flag, left state, right state, state.
-pub(crate) const BRANCH_RULE: u8 = 18;
-
-// An accepting state: state.
-pub(crate) const ACCEPTING_STATE: u8 = 19;
-
-// The paper's limit, for the labels of nodes and of rules alike.
-pub(crate) const HIGHEST_LABEL: u8 = 63;
 
 // The byte at a position, and 0 where the input has ended: a number of a record that is cut. So
 // records can be asked about before they are known to be whole, and `next_rule` and `is_accepting`

@@ -6,9 +6,9 @@ ghost use Prim.Native.Nat.{_<_};
 ghost use lib.ListN.{length};
 ghost use Rattle.stream.specs.Positions.{recordAt, isRuleFor, NextRule};
 use crate::lengths::body_length;
-use crate::record::BRANCH_RULE;
-use crate::record::LEAF_RULE;
 use crate::record::byte_at;
+use paper::kinds::BRANCH_RULE;
+use paper::kinds::LEAF_RULE;
 
 // Whether a rule of this kind and label stands at a position.
 fn is_rule_for(input: &[u8], at: usize, kind: u8, label: u8) -> bool

@@ -8,8 +8,8 @@ ghost use Rattle.paper.specs.Query.{acceptingOf};
 ghost use Rattle.paper.specs.Stream.{bodyLength, recordsOf};
 ghost use Rattle.stream.specs.OneRecord.{isSaid};
 use crate::lengths::body_length;
-use crate::record::ACCEPTING_STATE;
 use crate::record::says;
+use paper::kinds::ACCEPTING_STATE;
 
 // Whether a record at or behind a position begins with these bytes. The records are gone through
 // each time, as reading has no buffer to keep what it has met. They are few: of those before a record

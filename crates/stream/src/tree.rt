@@ -5,13 +5,11 @@ ghost use Prim.Native.Nat.{max};
 ghost use Rattle.stream.specs.OneRecord.{isTreeAt, AtTreeRecord, treeStep, saysTreeStep};
 ghost use Rattle.stream.specs.Reading.{saysTree, treeReply};
 use crate::lengths::body_length;
-use crate::record::BRANCH;
-use crate::record::HIGHEST_LABEL;
-use crate::record::LEAF;
 use paper::Refusal;
-
-// The paper's limit: one more tree kind is refused 2.
-const MOST_NODES: usize = 4095;
+use paper::kinds::BRANCH;
+use paper::kinds::LEAF;
+use paper::limits::HIGHEST_LABEL;
+use paper::limits::MOST_NODES;
 
 // Where the tree ends, how many nodes it has, and the most subtrees ever unjoined, by which the
 // work of a build is measured.

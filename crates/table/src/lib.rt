@@ -10,6 +10,16 @@ ghost use Rattle.table.specs.Sets.{setIn};
 use paper::Record;
 use paper::Set;
 
+// A record in a batch is so many numbers, in the order of its fields: kind, node, left, right, flag.
+pub const RECORD_NUMBERS: usize = 5;
+
+// A set while it is made is a number, so that it stands in the work: empty, unit, or the number of its record and so much more.
+pub const EMPTY: u64 = 0;
+
+pub const UNIT: u64 = 1;
+
+pub const FIRST_RECORD: u64 = 2;
+
 // Every entry blank, which is all zeros. A build that is refused with 6 leaves its table so: it may
 // have stored some of its records by then, which are no set without the others.
 pub fn blank(table: &mut [Record])
@@ -51,13 +61,13 @@ pub fn store(table: &mut [Record], from: usize, batch: &[u16], count: usize)
 }
 
 // How many records of a batch are stored: all of them, or none. It subtracts and divides where adding and
-// multiplying would say the same, since from + count and 5 * count may pass the largest usize.
+// multiplying would say the same, since from + count and the numbers of so many records may pass the largest usize.
 fn fitting(entries: usize, from: usize, numbers: usize, count: usize) -> usize
     ensures { λ n. ⌜ n ≡ fitted entries from numbers count ⌝ }
 {
     if count <= entries {
         if from <= entries - count {
-            if count <= numbers / 5 {
+            if count <= numbers / RECORD_NUMBERS {
                 return count;
             }
         }
@@ -70,7 +80,7 @@ fn record_at(batch: &[u16], i: usize) -> Record
     requires { ⌜ 5 * i + 4 < length (now batch) ⌝ }
     ensures { λ r. ⌜ r ≡ recordAt (now (batch .entry)) i ⌝ }
 {
-    let at = 5 * i;
+    let at = RECORD_NUMBERS * i;
     Record {
         kind: batch[at],
         node: batch[at + 1],
@@ -80,8 +90,8 @@ fn record_at(batch: &[u16], i: usize) -> Record
     }
 }
 
-// The set that a number is: 0 is empty, 1 is unit, i + 2 is record i. So sets stand in the work while
-// they are made. A set has 60,000 records at most, and the number of each is below 2^16.
+// The set that a number is, at the end: 0 is empty, 1 is unit, i + 2 is record i. There are at most 60,000 records, so the number
+// of each fits 16 bits.
 pub fn set_of(number: u16) -> Set
     ensures { λ r. ⌜ r ≡ setIn number ⌝ }
 {

@@ -18,6 +18,7 @@ use Rattle.table.proofs.store.Symbol as store-def
 use Rattle.table.proofs.store.Symbol.{name as #table·store}
 use Rattle.table.proofs.store.Met as store-thm
 use Rattle.walks.proofs.Building.{Hand, Law, Step, Store, building-meets, turned}
+use Rattle.building.specs.Bounds.{batchNumbers}
 use Rattle.building.specs.Batch.{Record, recordsIn}
 use Rattle.building.specs.Standing.{State, Standing, Stopped, Stepped, IsStanding, Turned, turnsLeft}
 use Rattle.building.specs.Driving.{Ready, Driven}
@@ -45,7 +46,7 @@ record Before (input : List ℕ) (x₀ x : Held) : Type 0 where
   limit : x .state .limit ≡ x₀ .state .limit
   asked : x .state .asked ≡ x₀ .state .asked
   entries : x₀ .state .limit ≤ length (x₀ .table)
-  room : 3240 ≤ length (x₀ .batch)
+  room : batchNumbers ≤ length (x₀ .batch)
   written : x .table ≡ over made (x₀ .table)
   kept : drop (x₀ .state .asked) (x .work) ≡ drop (x₀ .state .asked) (x₀ .work)
   goes : x .state .going ≡ true → Standing input (x .state) (x .work) made
@@ -103,7 +104,7 @@ stops input x₀ x before stopped = record {
 
 abbrev law : Law u64 shape storer from-field count-field
 law = record {
-  Ask = λ i s w b. IsStanding i s w × (3240 ≤ length b);
+  Ask = λ i s w b. IsStanding i s w × (batchNumbers ≤ length b);
   Tell = λ i s w b s′ w′ b′. Turned i s w s′ w′ b′;
   Ready = λ i x. Ready i (x .table) (x .state) (x .work) (x .batch);
   Built = λ i x y. Driven i (x .table) (x .state) (x .work) (y .table) (y .state) (y .work);
