@@ -122,6 +122,6 @@ drive-spec 𝓤 H 𝓜 𝓖 𝓡 =
     (building-meets u64 shape from-field count-field law 𝓤 H (𝓖 .A) (𝓜 .mem) (𝓡 .run) (givenOf 𝓤 H 𝓜 𝓖) (tyInt w64) #step #table·store
     (tablesOf 𝓤 H 𝓜 (tables 𝓤 H 𝓜 𝓡 code.env))
     (cited 𝓤 H (Step u64 shape from-field count-field law 𝓤 H (𝓖 .A) (𝓜 .mem) (𝓡 .run)) 𝓜 𝓡 code.env #step step-def.routine
-    code.calls-build·step·step (step-thm.met 𝓤 H 𝓜 𝓖 𝓡))
+    code.calls-building·step·step (step-thm.met 𝓤 H 𝓜 𝓖 𝓡))
     (cited 𝓤 H (Store u64 shape from-field count-field law 𝓤 H (𝓖 .A) (𝓜 .mem) (𝓡 .run)) 𝓜 𝓡 code.env #table·store store-def.routine
     code.calls-table·store (store-thm.met 𝓤 H 𝓜 𝓖 𝓡)))

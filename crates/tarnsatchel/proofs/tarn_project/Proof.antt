@@ -45,6 +45,6 @@ pub tarn-project-spec : {M : Type 1} → stated.statement M
 unfolding code.routine tablesOf
 tarn-project-spec 𝓤 H 𝓜 𝓖 𝓡 =
     output-told types law 𝓤 H 𝓜 𝓖 𝓡 code.env #tarn-project (tyInt w8) #head-of #project #tell (code.unfolded 𝓤 H 𝓜 𝓡)
-    (cited 𝓤 H (HeadOf types law 𝓤 H (𝓖 .A)) 𝓜 𝓡 code.env #head-of head-of-def.routine code.calls-c·head-of (head-of-thm.met 𝓤 H 𝓜 𝓖 𝓡))
+    (cited 𝓤 H (HeadOf types law 𝓤 H (𝓖 .A)) 𝓜 𝓡 code.env #head-of head-of-def.routine code.calls-tarnsatchel·head-of (head-of-thm.met 𝓤 H 𝓜 𝓖 𝓡))
     (cited 𝓤 H (Ask types law 𝓤 H (𝓖 .A)) 𝓜 𝓡 code.env #project project-def.routine code.calls-project·project (project-thm.met 𝓤 H 𝓜 𝓖 𝓡))
-    (cited 𝓤 H (Tell types law 𝓤 H (𝓖 .A)) 𝓜 𝓡 code.env #tell tell-def.routine code.calls-c·tell-project (tell-thm.met 𝓤 H 𝓜 𝓖 𝓡))
+    (cited 𝓤 H (Tell types law 𝓤 H (𝓖 .A)) 𝓜 𝓡 code.env #tell tell-def.routine code.calls-tarnsatchel·tell-project (tell-thm.met 𝓤 H 𝓜 𝓖 𝓡))

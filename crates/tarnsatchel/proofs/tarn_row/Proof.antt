@@ -45,6 +45,6 @@ pub tarn-row-spec : {M : Type 1} → stated.statement M
 unfolding code.routine tablesOf
 tarn-row-spec 𝓤 H 𝓜 𝓖 𝓡 =
     output-told types law 𝓤 H 𝓜 𝓖 𝓡 code.env #tarn-row (tyInt w16) #head-of #row #tell (code.unfolded 𝓤 H 𝓜 𝓡)
-    (cited 𝓤 H (HeadOf types law 𝓤 H (𝓖 .A)) 𝓜 𝓡 code.env #head-of head-of-def.routine code.calls-c·head-of (head-of-thm.met 𝓤 H 𝓜 𝓖 𝓡))
+    (cited 𝓤 H (HeadOf types law 𝓤 H (𝓖 .A)) 𝓜 𝓡 code.env #head-of head-of-def.routine code.calls-tarnsatchel·head-of (head-of-thm.met 𝓤 H 𝓜 𝓖 𝓡))
     (cited 𝓤 H (Ask types law 𝓤 H (𝓖 .A)) 𝓜 𝓡 code.env #row row-def.routine code.calls-row·row (row-thm.met 𝓤 H 𝓜 𝓖 𝓡))
-    (cited 𝓤 H (Tell types law 𝓤 H (𝓖 .A)) 𝓜 𝓡 code.env #tell tell-def.routine code.calls-c·tell-row (tell-thm.met 𝓤 H 𝓜 𝓖 𝓡))
+    (cited 𝓤 H (Tell types law 𝓤 H (𝓖 .A)) 𝓜 𝓡 code.env #tell tell-def.routine code.calls-tarnsatchel·tell-row (tell-thm.met 𝓤 H 𝓜 𝓖 𝓡))
