@@ -22,7 +22,7 @@ use Rattle.paper.specs.Refusals.{Reply, Test, answer, fix, isOpen, over, refuse
 use Rattle.paper.specs.Sound.{entry}
 use Rattle.laws.specs.QuestionCauses.{IsProduct, IsSingle, IsUnion, SetFits, Sound, UnitTwice}
 use Rattle.laws.proofs.OpenPlaces.{open-from-one}
-use Rattle.laws.proofs.QuestionRefusals.{unit-twice-row}
+use Rattle.laws.proofs.QuestionRefusals.{unit-twice-cause}
 use Rattle.laws.proofs.Tests.{passes-if-not}
 use Rattle.sound.specs.declared.Weighed.{Weighed}
 use Rattle.sound.specs.declared.Weighed.the-variants as WeighedIs
@@ -178,7 +178,7 @@ module _ (h : Head) (source : List Record) (work : List ℕ) (place n : ℕ) (ta
   BothUnit r = (r .kind ≡ 2) × ((getD images (r .left) empty ≡ unit) × (getD images (r .right) empty ≡ unit))
 
   twice-fails : Sound h source → (k : ℕ) → Twice source first k → once ≡ false
-  twice-fails good k t = unit-twice-row h source place n .1 (record {
+  twice-fails good k t = unit-twice-cause h source place n .1 (record {
     number = k;
     used = omega (arith, t .used, length-take-le (h .used) source (good .used-there));
     union = both .0;
@@ -190,7 +190,7 @@ module _ (h : Head) (source : List Record) (work : List ℕ) (place n : ℕ) (ta
       both = subst BothUnit (sym (used-entry k (t .used))) (t .union, (t .left, t .right))
 
   once-holds : Sound h source → ((k : ℕ) → Twice source first k → ⊥) → once ≡ true
-  once-holds good none = passes-if-not (unit-twice-row h source place n) (λ t. none (t .number) (twice-in t))
+  once-holds good none = passes-if-not (unit-twice-cause h source place n) (λ t. none (t .number) (twice-in t))
     where
       twice-in : (t : UnitTwice h source place n) → Twice source first (t .number)
       twice-in t = record { used = below; union = both .0; left = both .1 .0; right = both .1 .1 }
