@@ -1,6 +1,6 @@
 # For the scripts beside it and in examples/, from the repository's root: installs what a host lacks, builds Rust programs for this
 # host, and C and Fortran programs on the library's archive. The kit compiles for x86-64. On an Arm host a C or Fortran program is
-# built for x86-64 too, linked statically, and run under the kit's emulator, as the listing program is.
+# built for x86-64 too and run under the kit's emulator, as the listing program is, with the libraries of Debian's cross compilers.
 
 out=target/tests
 mkdir -p "$out" || exit 2
@@ -45,14 +45,15 @@ end_checks() {
 
 case $(uname -m) in
 aarch64 | arm64)
-    compiler=x86_64-linux-gnu-gcc fortran=x86_64-linux-gnu-gfortran compiler_words=(-static)
+    compiler=x86_64-linux-gnu-gcc fortran=x86_64-linux-gnu-gfortran
     compiler_packages=(gcc-x86-64-linux-gnu libc6-dev-amd64-cross) fortran_packages=(gfortran-x86-64-linux-gnu)
     tools=$(cd "$(dirname "$(readlink -f "$(command -v rt)")")/.." && pwd -P)/on/aarch64/toolchain
-    runner=("$tools/bin/qemu-x86_64")
-    program_runner=("${runner[@]}" "$tools/lib/ld-linux-x86-64.so.2" --library-path "$tools/lib")
+    # nothing is linked statically: the libm.a that these compilers bring in Debian 12 names files of an x86-64 host
+    runner=("$tools/bin/qemu-x86_64" -L /usr/x86_64-linux-gnu)
+    program_runner=("$tools/bin/qemu-x86_64" "$tools/lib/ld-linux-x86-64.so.2" --library-path "$tools/lib")
     ;;
 *)
-    compiler=gcc fortran=gfortran compiler_words=()
+    compiler=gcc fortran=gfortran
     compiler_packages=(gcc libc6-dev) fortran_packages=(gfortran libc6-dev)
     runner=() program_runner=()
     ;;
@@ -109,7 +110,7 @@ need_program() {
 c_program() {
     local name=$1 file=$2
     shift 2
-    "$compiler" -O2 -std=c11 -Wall -Wextra "${compiler_words[@]}" -Iinclude "$@" "$file" "$archive" -o "$out/$name" ||
+    "$compiler" -O2 -std=c11 -Wall -Wextra -Iinclude "$@" "$file" "$archive" -o "$out/$name" ||
         give_up "$name does not compile or link"
 }
 
@@ -117,6 +118,6 @@ c_program() {
 fortran_program() {
     local name=$1
     shift
-    "$fortran" -O2 -std=f2018 -Wall -Wextra "${compiler_words[@]}" -J"$out" "$@" "$archive" -o "$out/$name" ||
+    "$fortran" -O2 -std=f2018 -Wall -Wextra -J"$out" "$@" "$archive" -o "$out/$name" ||
         give_up "$name does not compile or link"
 }
