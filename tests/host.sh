@@ -4,6 +4,8 @@
 
 out=target/tests
 mkdir -p "$out" || exit 2
+# What a `make check` around this was told is not for the makes in here.
+unset MAKEFLAGS MAKELEVEL DESTDIR
 
 # Ends with a failed check, since the gate counts by the last line.
 give_up() {
@@ -76,6 +78,8 @@ need_rust() { need cc gcc libc6-dev && need rustc rustc; }
 # on an Arm host the Rust example is left out, and valgrind, which reads the C library's symbols, runs no x86-64 program
 need_cargo() { [ "${#runner[@]}" -gt 0 ] || need cargo cargo; }
 need_valgrind() { [ "${#runner[@]}" -gt 0 ] || need valgrind valgrind libc6-dbg; }
+need_make() { need make make; }
+need_pkg_config() { need pkg-config pkg-config; }
 
 # rust_library NAME [FILE] and rust_program NAME FILE [WORDS ..]: a library is made from tests/NAME/lib.rs, or from FILE
 rust_library() {
@@ -89,11 +93,15 @@ rust_program() {
     rustc -O --edition 2021 --crate-name "$name" "$file" -o "$out/$name" "$@" || give_up "$name does not compile"
 }
 
-# Sets `archive`: TARN_ARCHIVE if that is set, else that of crate `c`, which is proved first if it has changed.
+# Sets `archive`: TARN_ARCHIVE if that is set, else that of crate `tarnsatchel`, proved first if anything under crates/ is newer. make
+# is asked, since `rt staticlib` proves the crate each time.
 need_archive() {
-    archive=${TARN_ARCHIVE:-target/staticlib/libc.a}
-    [ -n "${TARN_ARCHIVE:-}" ] || rt staticlib c >"$out/staticlib.log" 2>&1 ||
-        give_up "rt staticlib c: $(tail -n 1 "$out/staticlib.log") (see $out/staticlib.log)"
+    archive=${TARN_ARCHIVE:-target/staticlib/libtarnsatchel.a}
+    if [ -z "${TARN_ARCHIVE:-}" ]; then
+        need_make
+        make "$archive" >"$out/staticlib.log" 2>&1 ||
+            give_up "make $archive: $(grep -v '^make' "$out/staticlib.log" | tail -n 1) (see $out/staticlib.log)"
+    fi
     [ -f "$archive" ] || give_up "no archive $archive"
 }
 
@@ -106,7 +114,7 @@ need_program() {
     program=("${program_runner[@]}" "$file")
 }
 
-# c_program NAME FILE [WORDS ..]: linked with the archive by its path, since its name may be that of the system's library
+# c_program NAME FILE [WORDS ..]: the archive by its path, since another one may have any name. (tests/install.sh links with -l.)
 c_program() {
     local name=$1 file=$2
     shift 2
