@@ -25,6 +25,7 @@ use Rattle.laws.proofs.Replies.{answer-inj, refused-inj, refused-not-answer}
 use Rattle.laws.proofs.SoundTest.{is-sound}
 use Rattle.building.specs.Face.{Builds}
 use Rattle.sound.specs.Face.{Counts}
+use Rattle.list.specs.Bounds.{longestLine, longestOpening, largestText}
 use Rattle.list.specs.declared.handed.Handed.{Handed}
 use Rattle.list.specs.declared.page.Page.{Page}
 use Rattle.list.specs.Handing.{nothingHanded}
@@ -67,7 +68,7 @@ too-long input long = rw (lt-leb (length input) 16384 long)
 
 -- ---- the first lines
 -- what waits is all that is told so far
-first-tells : (whole far : List ℕ) (t : Page) (text : List ℕ) → t .handed ≡ nothingHanded → 85 ≤ length text → t .bytes ≤ 58
+first-tells : (whole far : List ℕ) (t : Page) (text : List ℕ) → t .handed ≡ nothingHanded → longestLine ≤ length text → t .bytes ≤ longestOpening
     → take (t .bytes) text ≡ far → Tells whole far t text
 first-tells whole far t text none long few stands =
     let unhanded : t .handed .bytes ≡ 0 = ap (λ (h : Handed). h .bytes) none in
@@ -79,7 +80,7 @@ first-tells whole far t text none long few stands =
     }
 
 -- a refusal's is all there is
-pub refuses-lists : (input : List ℕ) (n : ℕ) → program input ≡ refused n → (t : Page) (text : List ℕ) → 85 ≤ length text → Refuses n t text
+pub refuses-lists : (input : List ℕ) (n : ℕ) → program input ≡ refused n → (t : Page) (text : List ℕ) → longestLine ≤ length text → Refuses n t text
     → Lists input t text
 refuses-lists input n e t text long R = record {
   tells = λ _. subst (λ (a : Reply (ℕ × List Row)). Tells (programText a) (programText a) t text) (sym e)
@@ -87,7 +88,7 @@ refuses-lists input n e t text long R = record {
 }
 
 -- a set's are those before the first row
-module _ (h : Head) (table : List Record) (bytes : ℕ) (text : List ℕ) (long : 85 ≤ length text) (F : Facts (h .used) (countOf h table) bytes text) where
+module _ (h : Head) (table : List Record) (bytes : ℕ) (text : List ℕ) (long : longestLine ≤ length text) (F : Facts (h .used) (countOf h table) bytes text) where
   abbrev first : Page
   first = opened h (countOf h table) bytes
 
@@ -162,7 +163,7 @@ module _ (input work₀ : List ℕ) (table₀ : List Record) (short : length inp
     enough : h .used ≤ 16384
     enough = omega (arith, built-good input h table set .sound .used-there, table-long)
 
-    module _ (n : Counted) (work′ : List ℕ) (C : Counts h table work n work′) (s : Page) (text : List ℕ) (long : 85 ≤ length text)
+    module _ (n : Counted) (work′ : List ℕ) (C : Counts h table work n work′) (s : Page) (text : List ℕ) (long : longestLine ≤ length text)
         (O : Opens (answer h) (saysCounted n) s text) where
       said-count : saysCounted n ≡ answer (countOf h table)
       said-count = C .answer ∙ built-right input h table set .counts (length work) (omega (arith, enough, work-long))
@@ -170,7 +171,7 @@ module _ (input work₀ : List ℕ) (table₀ : List Record) (short : length inp
       facts : Facts (h .used) (countOf h table) (s .bytes) text × (s ≡ opened h (countOf h table) (s .bytes))
       facts = subst (λ (a : Reply ℕ). Opens (answer h) a s text) said-count O
 
-      ready-set : length work′ ≡ 16384 → length text ≤ 65536 → Ready h table s work′ text input
+      ready-set : length work′ ≡ 16384 → length text ≤ largestText → Ready h table s work′ text input
       ready-set work-long′ few = record {
         room = record { long = long; short = few; within = omega (arith, facts .0 .bytes, long) };
         goes = λ _. (
@@ -193,7 +194,7 @@ module _ (input work₀ : List ℕ) (table₀ : List Record) (short : length inp
 
   -- ---- either way
   module _ (h : Head) (is : h ≡ headOf r) (n : Counted) (work′ : List ℕ) (C : Counts h table work n work′) (s : Page) (text : List ℕ)
-      (long : 85 ≤ length text) (O : Opens (saysBuilt r) (saysCounted n) s text) where
+      (long : longestLine ≤ length text) (O : Opens (saysBuilt r) (saysCounted n) s text) where
     -- the head is the one that was built
     head-said : (b : Built) (h′ : Head) → saysBuilt b ≡ answer h′ → headOf b ≡ h′
     head-said (BuiltIs.Set x) h′ e = answer-inj e
@@ -202,7 +203,7 @@ module _ (input work₀ : List ℕ) (table₀ : List Record) (short : length inp
     said-set : (h′ : Head) → saysBuilt r ≡ answer h′ → saysBuilt r ≡ answer h
     said-set h′ e = e ∙ ap answer (sym (is ∙ head-said r h′ e))
 
-    pub list-ready : length work′ ≡ 16384 → length text ≤ 65536 → Ready h table s work′ text input
+    pub list-ready : length work′ ≡ 16384 → length text ≤ largestText → Ready h table s work′ text input
     list-ready work-long′ few = go (saysBuilt r) refl
       where
         go : (a : Reply Head) → saysBuilt r ≡ a → Ready h table s work′ text input

@@ -13,6 +13,7 @@ use Rattle.paper.specs.Questions.{countOf}
 use Rattle.paper.specs.Records.{listing}
 use Rattle.paper.specs.Row.{Row}
 use Rattle.row.proofs.RowNumbers.{row-listed}
+use Rattle.list.specs.Bounds.{longestLine, longestOpening}
 use Rattle.list.specs.Listing.{linesTo, setText}
 use Rattle.list.specs.Text.{factText, lineText, linesText, recordsWord, rowText, rowsWord}
 use Rattle.list.proofs.Putting.{fact-short, row-short}
@@ -30,11 +31,11 @@ lines-more rows n h =
     ∙ ap (λ (bytes : List ℕ). linesText (take n rows) ++ bytes) (append-nil (lineText (getD rows n [])))
 
 -- a line of at most four places has at most 85 bytes
-pub line-short : (row : Row) → length row ≤ 4 → length (lineText row) ≤ 85
+pub line-short : (row : Row) → length row ≤ 4 → length (lineText row) ≤ longestLine
 line-short row h = omega (arith, length-append (rowText row) (10 ∷ []), row-short row)
 
 lines-short : (rows : List Row) → ((row : Row) → row ∈ rows → length row ≤ 4) → (n : ℕ) → n ≤ length rows
-    → length (linesText (take n rows)) ≤ 85 * n
+    → length (linesText (take n rows)) ≤ longestLine * n
 lines-short rows four zero h = omega arith
 lines-short rows four (suc n) h =
     omega (
@@ -73,7 +74,7 @@ module _ (h : Head) (table : List Record) where
   pub to-all : (n : ℕ) → n ≡ countOf h table → linesTo h table n ≡ setText h table
   to-all n e = ap (λ (k : ℕ). facts (linesText (take k rows))) e ∙ ap (λ (some : List Row). facts (linesText some)) (take-length rows)
 
-  pub to-short : ((row : Row) → row ∈ rows → length row ≤ 4) → (n : ℕ) → n ≤ countOf h table → length (linesTo h table n) ≤ 58 + 85 * n
+  pub to-short : ((row : Row) → row ∈ rows → length row ≤ 4) → (n : ℕ) → n ≤ countOf h table → length (linesTo h table n) ≤ longestOpening + longestLine * n
   to-short four n below =
       omega (
         arith,

@@ -15,6 +15,7 @@ use Rattle.paper.specs.declared.Refusal.{Refusal}
 use Rattle.paper.specs.declared.Written.{Written}
 use Rattle.paper.specs.declared.Written.the-variants as WrittenIs
 use Rattle.paper.specs.Answers.{numberOf, saysBuilt, saysCounted, saysWritten}
+use Rattle.list.specs.Bounds.{longestLine}
 use Rattle.list.specs.declared.handed.Handed.{Handed}
 use Rattle.list.specs.declared.page.Page.{Page}
 use Rattle.list.specs.Handing.{nothingHanded}
@@ -57,9 +58,9 @@ after t end next = record {
 }
 
 after-is : (t : Page) (room end : ℕ) → after t end (withRoom room t) ≡ lined (withRoom room t) end
-after-is t room end = go (leb 85 (room - t .bytes)) refl
+after-is t room end = go (leb longestLine (room - t .bytes)) refl
   where
-    go : (c : Bool) → leb 85 (room - t .bytes) ≡ c → after t end (withRoom room t) ≡ lined (withRoom room t) end
+    go : (c : Bool) → leb longestLine (room - t .bytes) ≡ c → after t end (withRoom room t) ≡ lined (withRoom room t) end
     go true e = rw e
     go false e = rw e
 

@@ -4,6 +4,7 @@ use mathlib.Core.Path.{_∙_, _≡_, ap, refl, subst, sym}
 use Prim.Native.Nat.{_*_, _+_, _<_, _≤_, suc, zero, ℕ}
 use native.Mathlib.Omega.{arith}
 use lib.ListN.{getD, length, length-append, take}
+use Rattle.list.specs.Bounds.{longestEntry}
 use Rattle.list.specs.Text.{Puts, entriesFrom, entryText, factText, numberText, rowText}
 use Rattle.list.proofs.Numbers.{number-short}
 
@@ -41,7 +42,7 @@ pub puts-none : (at : ℕ) (text : List ℕ) → Puts [] at text at text
 puts-none at text = record { ends = omega arith; stands = sym (append-nil (take at text)) }
 
 -- an entry has at most 21 bytes
-pub entry-short : (place n : ℕ) → length (entryText place n) ≤ 21
+pub entry-short : (place n : ℕ) → length (entryText place n) ≤ longestEntry
 entry-short zero n = omega (arith, number-short n)
 entry-short (suc place) n = omega (arith, number-short n)
 
@@ -54,15 +55,15 @@ puts-more row place {at} {middle} {end} {text} {text₁} {text₂} h p q =
     (puts-then p q)
 
 -- a row has at most 21 bytes an entry
-entries-short : (row : List ℕ) (place : ℕ) → length (entriesFrom place row) ≤ 21 * length row
+entries-short : (row : List ℕ) (place : ℕ) → length (entriesFrom place row) ≤ longestEntry * length row
 entries-short [] place = omega arith
 entries-short (x ∷ row) place =
     omega (arith, length-append (entryText place x) (entriesFrom (suc place) row), entry-short place x, entries-short row (suc place))
 
-pub row-short : (row : List ℕ) → length (rowText row) ≤ 21 * length row
+pub row-short : (row : List ℕ) → length (rowText row) ≤ longestEntry * length row
 row-short row = entries-short row 0
 
 -- ---- facts
-pub fact-short : (word : List ℕ) (n : ℕ) → length (factText word n) ≤ length word + 21
+pub fact-short : (word : List ℕ) (n : ℕ) → length (factText word n) ≤ length word + longestEntry
 fact-short word n =
     omega (arith, length-append word (numberText n ++ (10 ∷ [])), length-append (numberText n) (10 ∷ []), number-short n)

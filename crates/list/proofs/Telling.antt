@@ -23,6 +23,7 @@ use Rattle.laws.proofs.Replies.{answers}
 use Rattle.laws.proofs.SoundTest.{sound-is}
 use Rattle.row.specs.Face.{Numbers}
 use Rattle.row.proofs.RowNumbers.{row-listed}
+use Rattle.list.specs.Bounds.{longestLine}
 use Rattle.list.specs.declared.page.Page.{Page}
 use Rattle.list.specs.Handing.{HandsOn, Next, textOf}
 use Rattle.list.specs.Listing.{Fits, Going, Listable, Lists, Ready, Rows, Tells, linesTo, setText}
@@ -76,9 +77,9 @@ passed-tells far rest t text T = record {
 }
 
 room-tells : (far rest : List ℕ) (t : Page) (text : List ℕ) → Tells (far ++ rest) far t text → Tells (far ++ rest) far (withRoom (length text) t) text
-room-tells far rest t text T = go (leb 85 (length text - t .bytes)) refl
+room-tells far rest t text T = go (leb longestLine (length text - t .bytes)) refl
   where
-    go : (c : Bool) → leb 85 (length text - t .bytes) ≡ c → Tells (far ++ rest) far (withRoom (length text) t) text
+    go : (c : Bool) → leb longestLine (length text - t .bytes) ≡ c → Tells (far ++ rest) far (withRoom (length text) t) text
     go true e = rw e T
     go false e = rw e (passed-tells far rest t text T)
 
@@ -102,9 +103,9 @@ pub record Same (t u : Page) : Type 0 where
   pub fine : t .handed .failed ≡ false → u .handed .failed ≡ false
 
 room-same : (room : ℕ) (t : Page) → Same t (withRoom room t)
-room-same room t = go (leb 85 (room - t .bytes)) refl
+room-same room t = go (leb longestLine (room - t .bytes)) refl
   where
-    go : (c : Bool) → leb 85 (room - t .bytes) ≡ c → Same t (withRoom room t)
+    go : (c : Bool) → leb longestLine (room - t .bytes) ≡ c → Same t (withRoom room t)
     go true e = rw e (record { number = refl; rows = refl; places = refl; fine = λ f. f })
     go false e = rw e (record { number = refl; rows = refl; places = refl; fine = λ f. refl })
 
@@ -286,7 +287,7 @@ module _ (h : Head) (table : List Record) (s : Page) (text input : List ℕ) whe
             ap (λ (k : ℕ). take k o′) (G .places)
             ∙ row-taken h table (length (x .work)) able (t .number) below (x .work) (x .row) refl places r w′ o′ N
 
-        short-line : length line ≤ 85
+        short-line : length line ≤ longestLine
         short-line =
             line-short (take (t .places) o′)
             (omega (arith, ap length taken, row-long h table (length (x .work)) able (t .number) below, is-sound h table (length (x .work)) able .few-places))

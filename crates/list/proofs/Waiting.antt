@@ -9,24 +9,25 @@ use lib.Dec.{leb}
 use lib.IntN.{pos}
 use lib.ListN.{length, take}
 use lib.Seq.{length-take-le}
+use Rattle.list.specs.Bounds.{longestLine}
 use Rattle.list.specs.declared.handed.Handed.{Handed}
 use Rattle.list.specs.declared.page.Page.{Page}
 use Rattle.list.specs.Handing.{Due}
 use Rattle.list.specs.Page.{MakesRoom, Waits, passedOn, withRoom}
 use Rattle.list.specs.Text.{Puts}
 
-waits-all : (room : ℕ) (t : Page) → 85 ≤ room - t .bytes → withRoom room t ≡ t
-waits-all room t h = rw (le-leb 85 (room - t .bytes) h)
+waits-all : (room : ℕ) (t : Page) → longestLine ≤ room - t .bytes → withRoom room t ≡ t
+waits-all room t h = rw (le-leb longestLine (room - t .bytes) h)
 
-waits-none : (room : ℕ) (t : Page) → room - t .bytes < 85 → withRoom room t ≡ passedOn t false
-waits-none room t h = rw (lt-leb 85 (room - t .bytes) h)
+waits-none : (room : ℕ) (t : Page) → room - t .bytes < longestLine → withRoom room t ≡ passedOn t false
+waits-none room t h = rw (lt-leb longestLine (room - t .bytes) h)
 
 -- then a line fits
-pub waits-room : (room : ℕ) (t : Page) → 85 ≤ room → t .bytes ≤ room → withRoom room t .bytes + 85 ≤ room
-waits-room room t long within = go (leb 85 (room - t .bytes)) refl
+pub waits-room : (room : ℕ) (t : Page) → longestLine ≤ room → t .bytes ≤ room → withRoom room t .bytes + longestLine ≤ room
+waits-room room t long within = go (leb longestLine (room - t .bytes)) refl
   where
-    go : (c : Bool) → leb 85 (room - t .bytes) ≡ c → withRoom room t .bytes + 85 ≤ room
-    go true e = rw e (omega (arith, leb-true 85 (room - t .bytes) e, within))
+    go : (c : Bool) → leb longestLine (room - t .bytes) ≡ c → withRoom room t .bytes + longestLine ≤ room
+    go true e = rw e (omega (arith, leb-true longestLine (room - t .bytes) e, within))
     go false e = rw e (omega (arith, long))
 
 -- ---- what waits may be handed to standard output
@@ -73,15 +74,15 @@ module _ (t : Page) (text : List ℕ) (next : Page) (text₁ : List ℕ) (fine :
   }
 
   pub room-made : next .handed .failed ≡ false → Roomy
-  room-made still = go (leb 85 (length text - t .bytes)) refl
+  room-made still = go (leb longestLine (length text - t .bytes)) refl
     where
-      go : (c : Bool) → leb 85 (length text - t .bytes) ≡ c → Roomy
+      go : (c : Bool) → leb longestLine (length text - t .bytes) ≡ c → Roomy
       go true e =
-          let fits = leb-true 85 (length text - t .bytes) e in
+          let fits = leb-true longestLine (length text - t .bytes) e in
           let page : next ≡ withRoom (length text) t = M .keeps fits .0 ∙ sym (waits-all (length text) t fits) in
           roomy page (ap₂ (λ (u : Page) (m : List ℕ). take (u .bytes) m) page (M .keeps fits .1))
       go false e =
-          let full = leb-false 85 (length text - t .bytes) e in
+          let full = leb-false longestLine (length text - t .bytes) e in
           let empty : next ≡ passedOn t false = M .passes full ∙ ap (passedOn t) still in
           let none = waits-none (length text) t full in
           roomy (empty ∙ sym none)
@@ -89,10 +90,10 @@ module _ (t : Page) (text : List ℕ) (next : Page) (text₁ : List ℕ) (fine :
 
   -- handing on has failed, and nothing waits
   pub room-failed : next .handed .failed ≡ true → next .bytes ≡ 0
-  room-failed failed = go (leb 85 (length text - t .bytes)) refl
+  room-failed failed = go (leb longestLine (length text - t .bytes)) refl
     where
-      go : (c : Bool) → leb 85 (length text - t .bytes) ≡ c → next .bytes ≡ 0
+      go : (c : Bool) → leb longestLine (length text - t .bytes) ≡ c → next .bytes ≡ 0
       go true e =
-          let same = M .keeps (leb-true 85 (length text - t .bytes) e) .0 in
+          let same = M .keeps (leb-true longestLine (length text - t .bytes) e) .0 in
           absurd (true≢false (sym failed ∙ ap (λ (u : Page). u .handed .failed) same ∙ fine))
-      go false e = ap (λ (u : Page). u .bytes) (M .passes (leb-false 85 (length text - t .bytes) e))
+      go false e = ap (λ (u : Page). u .bytes) (M .passes (leb-false longestLine (length text - t .bytes) e))

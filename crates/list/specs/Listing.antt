@@ -5,6 +5,7 @@ use mathlib.Core.Path.{_≡_}
 use Prim.Native.Nat.{ℕ, _+_, _≤_, _<_, _^_}
 use lib.Dec.{ltb}
 use lib.ListN.{length, take}
+use Rattle.list.specs.Bounds.{longestLine, largestText}
 use Rattle.list.specs.declared.page.Page.{Page}
 use Rattle.paper.specs.declared.Built.{Built}
 use Rattle.paper.specs.declared.Built.the-variants as BuiltIs
@@ -32,8 +33,8 @@ pub record Tells (whole far : List ℕ) (t : Page) (text : List ℕ) : Type 0 wh
 
 -- the buffer is long enough for a line, and holds what waits
 pub record Fits (t : Page) (text : List ℕ) : Type 0 where
-  pub long : 85 ≤ length text
-  pub short : length text ≤ 65536
+  pub long : longestLine ≤ length text
+  pub short : length text ≤ largestText
   pub within : t .bytes ≤ length text
 
 module _ (h : Head) (table : List Record) where

@@ -5,6 +5,7 @@ use mathlib.Core.Path.{_≡_}
 use Prim.Native.Nat.{ℕ, _+_, _-_, _≤_, _<_, _^_}
 use lib.Dec.{leb, ltb}
 use lib.ListN.{length, take}
+use Rattle.list.specs.Bounds.{longestLine, longestOpening, largestText}
 use Rattle.list.specs.declared.page.Page.{Page}
 use Rattle.paper.specs.declared.Head.{Head}
 use Rattle.paper.specs.Refusals.{Reply, refused, answer}
@@ -14,14 +15,14 @@ use Rattle.list.specs.Text.{Puts, factText, lineText, recordsWord, rowsW
 -- one line, and nothing is to follow
 pub record Refuses (n : ℕ) (t : Page) (text′ : List ℕ) : Type 0 where
   pub stands : take (t .bytes) text′ ≡ factText refusedWord n
-  pub bytes : t .bytes ≤ 58
+  pub bytes : t .bytes ≤ longestOpening
   pub unhanded : t .handed ≡ nothingHanded
   pub stops : t .going ≡ false
 
 -- the two lines before the rows
 pub record Facts (made rows end : ℕ) (text′ : List ℕ) : Type 0 where
   pub stands : take end text′ ≡ factText recordsWord made ++ factText rowsWord rows
-  pub bytes : end ≤ 58
+  pub bytes : end ≤ longestOpening
 
 -- the page before the first row: of a refusal, or of a set and its rows
 abbrev pub opened : Head → ℕ → ℕ → Page
@@ -54,11 +55,11 @@ passedOn t failed = record {
 
 -- the page before a line of at most 85 bytes is put into so much room, unless handing on fails
 abbrev pub withRoom : ℕ → Page → Page
-withRoom room t = cond (leb 85 (room - t .bytes)) t (passedOn t false)
+withRoom room t = cond (leb longestLine (room - t .bytes)) t (passedOn t false)
 
 pub record MakesRoom (t : Page) (text : List ℕ) (t′ : Page) (text′ : List ℕ) : Type 0 where
-  pub keeps : 85 ≤ length text - t .bytes → (t′ ≡ t) × (text′ ≡ text)
-  pub passes : length text - t .bytes < 85 → t′ ≡ passedOn t (t′ .handed .failed)
+  pub keeps : longestLine ≤ length text - t .bytes → (t′ ≡ t) × (text′ ≡ text)
+  pub passes : length text - t .bytes < longestLine → t′ ≡ passedOn t (t′ .handed .failed)
 
 -- ---- a row's line
 -- the line is put behind what waits; or none, and the listing ends
@@ -81,8 +82,8 @@ RowThere places (refused n) row = Unit {0}
 RowThere places (answer a) row = (places ≤ 4) × (places ≤ length row)
 
 pub record LineReady (input : List ℕ) (t : Page) (written : Reply (Unit {0})) (row text : List ℕ) : Type 0 where
-  pub long : 85 ≤ length text
-  pub short : length text ≤ 65536
+  pub long : longestLine ≤ length text
+  pub short : length text ≤ largestText
   pub waits : Waits input t text
   pub next : t .number < t .rows
   pub there : RowThere (t .places) written row

@@ -4,6 +4,7 @@
 ghost use mathlib.Core.Path.{_≡_};
 ghost use Prim.Native.Nat.{_≤_};
 ghost use lib.ListN.{length};
+ghost use Rattle.list.specs.Bounds.{longestLine, largestText};
 ghost use Rattle.list.specs.Handing.{HandsOn};
 ghost use Rattle.list.specs.Listing.{headOf, Ready, Rows, Lists};
 use crate::handed::Handed;
@@ -24,6 +25,13 @@ use paper::Set;
 mod handed;
 mod page;
 mod text;
+
+// Document 01 gives the program so many bytes of input, entries of its table and numbers of work.
+const LONGEST_INPUT: usize = 16384;
+
+const TABLE_ENTRIES: usize = 2000;
+
+const WORK_NUMBERS: usize = 16384;
 
 // The built set, or one that lists nothing. A refused build has no head, but the walk below is a straight line that counts in either
 // case: the count of this one is refused, and the refusal of the build, which comes first, is what is told (`open_page`).
@@ -65,10 +73,10 @@ fn rows(
     t
 }
 
-// What is told of an input, up to what waits. Document 01 gives the program a table of 2,000 entries and a work of 16,384 numbers: a
-// stream that asks for more is refused 6 or 5. The table is lent blank, but any table would do, since `build` says what it leaves.
+// What is told of an input, up to what waits. A stream that asks for more than the table and the work have is refused 6 or 5. The
+// table is lent blank, but any table would do, since `build` says what it leaves.
 fn list(input: &[u8], text: &mut [u8]) -> Page
-    requires { ⌜ (length (now input) ≤ 16384) × (85 ≤ length (now text)) × (length (now text) ≤ 65536) ⌝ }
+    requires { ⌜ (length (now input) ≤ 16384) × (longestLine ≤ length (now text)) × (length (now text) ≤ largestText) ⌝ }
     ensures { λ r. ⌜ Lists (now (input .entry)) r (now (text .exit)) ⌝ }
 {
     let blank = Record {
@@ -78,8 +86,8 @@ fn list(input: &[u8], text: &mut [u8]) -> Page
         right: 0,
         flag: 0,
     };
-    let mut table: [Record; 2000] = [blank; 2000];
-    let mut work: [u64; 16384] = [0; 16384];
+    let mut table: [Record; TABLE_ENTRIES] = [blank; TABLE_ENTRIES];
+    let mut work: [u64; WORK_NUMBERS] = [0; WORK_NUMBERS];
     let built = building::build(input, &mut work, &mut table);
     let head = head_of(built);
     let counted = sound::count(head, &table, &mut work);
@@ -87,12 +95,12 @@ fn list(input: &[u8], text: &mut [u8]) -> Page
     rows(head, &table, s, &mut work, &mut *text, input)
 }
 
-// An input of more than 16,384 bytes is refused 14, before any byte of it is looked at.
+// An input that is too long is refused 14, before any byte of it is looked at.
 fn answer(input: &[u8], text: &mut [u8]) -> Page
-    requires { ⌜ (85 ≤ length (now text)) × (length (now text) ≤ 65536) ⌝ }
+    requires { ⌜ (longestLine ≤ length (now text)) × (length (now text) ≤ largestText) ⌝ }
     ensures { λ r. ⌜ Lists (now (input .entry)) r (now (text .exit)) ⌝ }
 {
-    if input.len() > 16384 {
+    if input.len() > LONGEST_INPUT {
         return refuse(Refusal::LongInput, &mut *text);
     }
     list(input, &mut *text)
@@ -101,7 +109,7 @@ fn answer(input: &[u8], text: &mut [u8]) -> Page
 // All that is told of an input, handed on. What waits when the last row is told is handed on here; not so where a write has failed
 // before, since the text would then go on behind a gap.
 fn tell(input: &[u8], text: &mut [u8]) -> Handed
-    requires { ⌜ (85 ≤ length (now text)) × (length (now text) ≤ 65536) ⌝ }
+    requires { ⌜ (longestLine ≤ length (now text)) × (length (now text) ≤ largestText) ⌝ }
     ensures { λ r. ⌜ HandsOn (now (input .entry)) r ⌝ }
 {
     let page = answer(input, &mut *text);
@@ -114,10 +122,10 @@ fn tell(input: &[u8], text: &mut [u8]) -> Handed
 }
 
 // One byte more is read than the program takes, to see an input that is too long: `read_full` stops where the buffer is full or the
-// input ends, so 16,385 bytes read mean that there were too many. The text's buffer is large so that a write of the system, which
+// input ends. The text's buffer is large so that a write of the system, which
 // costs far more than a line, is made for hundreds of lines at once.
 fn main() {
-    let mut input = [0u8; 16385];
+    let mut input = [0u8; LONGEST_INPUT + 1];
     let mut text = io::large_buffer();
     let n = io::read_full(STDIN_FILENO, &mut input);
     tell(&input[..n], &mut text);

@@ -4,11 +4,13 @@ ghost use mathlib.Core.Path.{_≡_};
 ghost use Prim.Native.Nat.{_≤_};
 ghost use lib.ListN.{length};
 ghost use Rattle.paper.specs.Answers.{numberOf, saysBuilt, saysCounted, saysWritten};
+ghost use Rattle.list.specs.Bounds.{longestOpening, largestText};
 ghost use Rattle.list.specs.Page.{Facts, Refuses, Opens, Waits, passedOn, MakesRoom, LineReady, Lines};
 use crate::handed::Handed;
 use crate::handed::hand_on;
 use crate::handed::has_failed;
 use crate::handed::nothing;
+use crate::text::LONGEST_NUMBER;
 use crate::text::put_fact;
 use crate::text::put_row;
 use libc::STDOUT_FILENO;
@@ -17,10 +19,11 @@ use paper::Counted;
 use paper::Head;
 use paper::Refusal;
 use paper::Written;
+use paper::limits::MOST_PLACES;
 
-// A line has at most four entries, each with a space before it and at most 20 digits, and its end: 4 * 21 + 1. An entry has at most
-// five digits in fact, but `put_number` puts any 64-bit number, and a bound that needs no fact about the row costs nothing here.
-const LONGEST_LINE: usize = 85;
+// A line has at most four entries, each with a space before it and at most 20 digits, and its end. An entry has at most five digits in
+// fact, but `put_number` puts any 64-bit number, and a bound that needs no fact about the row costs nothing here.
+const LONGEST_LINE: usize = MOST_PLACES * (1 + LONGEST_NUMBER) + 1;
 
 // `number` is the next row's, of so many rows with so many places. `handed` tells what was handed on, and the first `bytes` of the text
 // wait. `going` is that there is a row to tell and no write has failed.
@@ -33,10 +36,9 @@ pub(crate) struct Page {
     pub(crate) going: bool,
 }
 
-// One line with the number that says no, and no more. The text is empty then, so 58 bytes, which two such lines take at most (a word of
-// 8, 20 digits and the end, twice), are enough here too.
+// One line with the number that says no, and no more. The text is empty then, and has room for two such lines.
 pub(crate) fn refuse(why: Refusal, text: &mut [u8]) -> Page
-    requires { ⌜ (58 ≤ length (now text)) × (length (now text) ≤ 65536) ⌝ }
+    requires { ⌜ (longestOpening ≤ length (now text)) × (length (now text) ≤ largestText) ⌝ }
     ensures { λ r. ⌜ Refuses (numberOf why) r (now (text .exit)) ⌝ }
 {
     let bytes = put_fact(
@@ -57,7 +59,7 @@ pub(crate) fn refuse(why: Refusal, text: &mut [u8]) -> Page
 
 // The records made and the rows, before the first row: two lines, told before any row is asked for.
 fn facts(head: Head, rows: u64, text: &mut [u8]) -> usize
-    requires { ⌜ (58 ≤ length (now text)) × (length (now text) ≤ 65536) ⌝ }
+    requires { ⌜ (longestOpening ≤ length (now text)) × (length (now text) ≤ largestText) ⌝ }
     ensures { λ r. ⌜ Facts (head .used) rows r (now (text .exit)) ⌝ }
 {
     let records = head.used as u64;
@@ -72,7 +74,7 @@ fn facts(head: Head, rows: u64, text: &mut [u8]) -> usize
 
 // The first lines of a listing: the records and the rows, or a refusal.
 pub(crate) fn open_page(built: Built, counted: Counted, text: &mut [u8]) -> Page
-    requires { ⌜ (58 ≤ length (now text)) × (length (now text) ≤ 65536) ⌝ }
+    requires { ⌜ (longestOpening ≤ length (now text)) × (length (now text) ≤ largestText) ⌝ }
     ensures { λ r. ⌜ Opens (saysBuilt built) (saysCounted counted) r (now (text .exit)) ⌝ }
 {
     match built {
@@ -108,7 +110,7 @@ pub(crate) fn pass_on(input: &[u8], t: Page, text: &mut [u8]) -> Page
     next
 }
 
-// What waits is handed on, if a line might not fit behind it. With 85 bytes left any line fits, so it is never measured first.
+// What waits is handed on, if a line might not fit behind it. With room for the longest line any line fits, so it is never measured first.
 fn make_room(input: &[u8], t: Page, text: &mut [u8]) -> Page
     requires { ⌜ Waits (now input) t (now text) ⌝ }
     ensures { λ r. ⌜ MakesRoom t (now (text .entry)) r (now (text .exit)) ⌝ }

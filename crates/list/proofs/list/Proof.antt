@@ -44,6 +44,7 @@ use Rattle.sound.proofs.count as count
 use Rattle.sound.proofs.count.Symbol as count-def
 use Rattle.sound.proofs.count.Symbol.{name as #count}
 use Rattle.sound.proofs.count.Met as count-thm
+use Rattle.list.specs.Bounds.{longestLine, longestOpening, largestText}
 use Rattle.list.specs.declared.page.Page.{Page}
 use Rattle.list.specs.Listing.{Lists, Ready, Rows, headOf}
 use Rattle.list.specs.Page.{Opens}
@@ -215,7 +216,7 @@ module _ {M : Type 1} (𝓤 : URA M) (H : Heap 𝓤) (A : Atoms 𝓤) (W : Given
         tt,
       )
 
-      goes-open : (r : Built) → Good built r → (n : Counted) → Good counted n → (58 ≤ length text) × (length text ≤ 65536) → (ν : ℕ) (δ : GName)
+      goes-open : (r : Built) → Good built r → (n : Counted) → Good counted n → (longestOpening ≤ length text) × (length text ≤ largestText) → (ν : ℕ) (δ : GName)
           → ent 𝓤 (⋆ 𝓤 H A (‵ (flft (ν ∷ []) fullShare) ∷ ‵ (Mine u8 bᵗ oᵗ (ν ∷ []) δ (length text) text) ∷ [])) (Open .pre (to-open r n ν δ))
       goes-open r good n good′ ok ν δ =
           qed W (‵ (flft (ν ∷ []) fullShare) ∷ ‵ (Mine u8 bᵗ oᵗ (ν ∷ []) δ (length text) text) ∷ []) ∵
@@ -321,7 +322,7 @@ module _ {M : Type 1} (𝓤 : URA M) (H : Heap 𝓤) (A : Atoms 𝓤) (W : Given
 
         -- the first lines are put
         opens : (r : Built) (h : Head) (n : Counted) (t : List Record) (w : List ℕ) → Good built r → Good head h → Good counted n
-            → length t ≡ 2000 → length w ≡ 16384 → (58 ≤ length text) × (length text ≤ 65536)
+            → length t ≡ 2000 → length w ≡ 16384 → (longestOpening ≤ length text) × (length text ≤ largestText)
             → ((s : Page) (m : List ℕ) → length m ≡ length text → Opens (saysBuilt r) (saysCounted n) s m
             → Ready h t s w m input × ((e : Page) (m′ : List ℕ) → Rows h t s m e m′ → Lists input e m′))
             → Sq W (Context t w text (full (built .low r) ∷ full (head .low h) ∷ full (counted .low n) ∷ bare
@@ -344,7 +345,7 @@ module _ {M : Type 1} (𝓤 : URA M) (H : Heap 𝓤) (A : Atoms 𝓤) (W : Given
 
         -- the rows are counted
         counts : (r : Built) (h : Head) (t : List Record) (w : List ℕ) → Good built r → Good head h
-            → length t ≡ 2000 → length w ≡ 16384 → (58 ≤ length text) × (length text ≤ 65536)
+            → length t ≡ 2000 → length w ≡ 16384 → (longestOpening ≤ length text) × (length text ≤ largestText)
             → ((n : Counted) (w′ : List ℕ) → length w′ ≡ 16384 → Counts h t w n w′
             → (s : Page) (m : List ℕ) → length m ≡ length text → Opens (saysBuilt r) (saysCounted n) s m
             → Ready h t s w′ m input × ((e : Page) (m′ : List ℕ) → Rows h t s m e m′ → Lists input e m′))
@@ -374,7 +375,7 @@ module _ {M : Type 1} (𝓤 : URA M) (H : Heap 𝓤) (A : Atoms 𝓤) (W : Given
 
         -- the set is taken out of what was built
         heads : (r : Built) (t : List Record) (w : List ℕ) → Good built r → length t ≡ 2000 → length w ≡ 16384
-            → (58 ≤ length text) × (length text ≤ 65536)
+            → (longestOpening ≤ length text) × (length text ≤ largestText)
             → ((h : Head) → h ≡ headOf r → (n : Counted) (w′ : List ℕ) → length w′ ≡ 16384 → Counts h t w n w′
             → (s : Page) (m : List ℕ) → length m ≡ length text → Opens (saysBuilt r) (saysCounted n) s m
             → Ready h t s w′ m input × ((e : Page) (m′ : List ℕ) → Rows h t s m e m′ → Lists input e m′))
@@ -388,7 +389,7 @@ module _ {M : Type 1} (𝓤 : URA M) (H : Heap 𝓤) (A : Atoms 𝓤) (W : Given
             land ! (from ! (stop !)) (init ! 18 refl (head .typed 𝓤 H A W h good′)) $
             counts r h t w good good′ t-long w-long ok (then h e)))
 
-      walk : (length input ≤ 16384) × (85 ≤ length text) × (length text ≤ 65536)
+      walk : (length input ≤ 16384) × (longestLine ≤ length text) × (length text ≤ largestText)
           → ent 𝓤 (onEntry 𝓤 H A list.signature (κⁱ, (κᵗ, tt)) (qⁱ, (qᵗ, tt)) handed machines)
           (WpFn 𝓤 H (𝓣 .C) (𝓣 .Λ) code.function (input-slice ∷ text-slice ∷ []) Post)
       walk ok =
@@ -442,7 +443,7 @@ list-spec 𝓤 H 𝓜 𝓖 𝓡 =
     (goes-shown (givenOf 𝓤 H 𝓜 𝓖) 2 0 tt u8, (goes-still (givenOf 𝓤 H 𝓜 𝓖) 2 1 tt u8, tt))
     (λ κs. (slice-vals, (slice-vals, tt)))
     (λ κs. (shr-slice-tells (named 0) (κs .0) u8, (mut-slice-tells (named 1) (κs .1 .0) u8, tt)))
-    (λ κs qs bounds a g are. needs 𝓤 ((length (a .0 .now) ≤ 16384) × (85 ≤ length (a .1 .0 .now)) × (length (a .1 .0 .now) ≤ 65536)) _
+    (λ κs qs bounds a g are. needs 𝓤 ((length (a .0 .now) ≤ 16384) × (longestLine ≤ length (a .1 .0 .now)) × (length (a .1 .0 .now) ≤ largestText)) _
     (walk 𝓤 H (𝓖 .A) (givenOf 𝓤 H 𝓜 𝓖) (𝓜 .mem) (𝓡 .run) (κs .0) (κs .1 .0) (qs .0) (qs .1 .0)
     (a .0 .ptr .0) (a .0 .ptr .1) (a .0 .name) (a .0 .now) (a .1 .0 .ptr .0) (a .1 .0 .ptr .1) (a .1 .0 .name) (a .1 .0 .now)
     (tablesOf 𝓤 H 𝓜 (tables 𝓤 H 𝓜 𝓡 code.env))

@@ -5,6 +5,7 @@ use native.Mathlib.Numerals.{add-one}
 use native.Mathlib.Omega.{arith}
 use borrow.Author.Needs.{needs}
 use lib.ListN.{getD, length, take}
+use Rattle.list.specs.Bounds.{longestEntry}
 use Rattle.list.specs.Text.{Puts, rowText}
 use Rattle.list.proofs.Putting.{entry-short, puts-more, puts-none}
 use Rattle.list.proofs.text.put_entries.Statement.{statement}
@@ -12,7 +13,7 @@ use Rattle.list.proofs.text.put_entries.Tie as tie
 
 abbrev Inv-loop : tie.InvT-loop
 Inv-loop text₀ at row places end₀ place₀ text end place =
-    (place ≤ places) × (end ≤ at + 21 * place) × (length text ≡ length text₀) × Puts (rowText (take place row)) at text₀ end text
+    (place ≤ places) × (end ≤ at + longestEntry * place) × (length text ≡ length text₀) × Puts (rowText (take place row)) at text₀ end text
 
 abbrev μ-loop : tie.MeasureT-loop
 μ-loop text₀ at row places end₀ place₀ text end place = places - place

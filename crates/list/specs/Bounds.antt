@@ -1,0 +1,34 @@
+-- How many bytes the parts of the text take at most, and the buffer that they wait in. The parts come in the order in which a line is made.
+use Prim.Native.Nat.{ℕ, _+_, _*_}
+
+-- a number below 2 to the power of 64 in decimal digits
+abbrev pub longestNumber : ℕ
+longestNumber = 20
+
+-- an entry of a row, with a space before it
+abbrev pub longestEntry : ℕ
+longestEntry = 1 + longestNumber
+
+-- the entries of a row: an arity is at most 4
+abbrev pub longestEntries : ℕ
+longestEntries = 4 * longestEntry
+
+-- a row's line, with its end
+abbrev pub longestLine : ℕ
+longestLine = longestEntries + 1
+
+-- a word that a line of facts begins with: `records ` and `refused ` are the longest
+abbrev pub longestWord : ℕ
+longestWord = 8
+
+-- such a line, with its end
+abbrev pub longestFact : ℕ
+longestFact = longestWord + longestNumber + 1
+
+-- what stands before the first row: the records made and the rows
+abbrev pub longestOpening : ℕ
+longestOpening = 2 * longestFact
+
+-- the buffer where lines wait, which is the kit's large one; so no sum of positions in it passes the largest number
+abbrev pub largestText : ℕ
+largestText = 65536
