@@ -6,6 +6,8 @@ use crate::flag::open_from;
 use crate::state::State;
 use paper::Record;
 use places::has_place;
+use sound::weight::flag_in;
+use sound::weight::rows_in;
 
 // The descent goes on at row `number` of record `at`.
 fn go_down(t: State, at: usize, number: u64) -> State
@@ -50,7 +52,7 @@ fn union_side(t: State, r: Record, work: &[u64]) -> State
     ensures { λ s. ⌜ s ≡ unionSide t r (now (work .entry)) ⌝ }
 {
     let left = r.left as usize;
-    let rows = work[left] / 16;
+    let rows = rows_in(work[left]);
     if t.number < rows {
         return begin_lower(t, left, t.number);
     }
@@ -65,8 +67,8 @@ fn product_side(t: State, r: Record, work: &[u64]) -> State
 {
     let left = r.left as usize;
     let right = r.right as usize;
-    let rows = work[right] / 16;
-    let flag = (work[left] % 16) as u16;
+    let rows = rows_in(work[right]);
+    let flag = flag_in(work[left]) as u16;
     if has_place(flag, t.place) {
         return go_down(t, left, t.number / rows);
     }

@@ -3,22 +3,17 @@
 use mathlib.Core.Bool.{Bool, true, false, cond, _&&_}
 use mathlib.Core.List.{List, [], _∷_}
 use mathlib.Core.Path.{_≡_}
-use Prim.Native.Nat.{ℕ, _+_, _*_, _/_, _%_, _^_, _≤_, _<_}
+use Prim.Native.Nat.{ℕ, _+_, _*_, _^_, _≤_, _<_}
 use lib.Dec.{eqb, ltb, leb}
 use lib.ListN.{length, getD, set}
 use Rattle.paper.specs.declared.Record.{Record}
 use Rattle.paper.specs.Lists.{every}
 use Rattle.paper.specs.Row.{noPlace}
 use Rattle.paper.specs.Sound.{apart, mostRows}
+use Rattle.sound.specs.Weights.{flagIn, rowsIn}
 pub use Rattle.sound.specs.declared.state.State.{State}
 
 -- ---- the rows
-abbrev pub rowsIn : ℕ → ℕ
-rowsIn weight = weight / 16
-
-abbrev pub flagIn : ℕ → ℕ
-flagIn weight = weight % 16
-
 -- the rows, if a record may list so many
 abbrev pub ifFew : ℕ → ℕ
 ifFew rows = cond (leb rows mostRows) rows 0

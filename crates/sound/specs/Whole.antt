@@ -12,8 +12,8 @@ use Rattle.paper.specs.declared.Set.the-variants.{Empty as empty, Unit as unit,
 use Rattle.paper.specs.Lists.{every}
 use Rattle.paper.specs.Refusals.{over}
 use Rattle.paper.specs.Row.{noPlace}
-use Rattle.sound.specs.Steps.{State, flagIn}
-use Rattle.sound.specs.Weights.{Weighed}
+use Rattle.sound.specs.Steps.{State}
+use Rattle.sound.specs.Weights.{Weighed, flagIn}
 use Rattle.sound.specs.declared.Weighed.the-variants as WeighedIs
 
 -- the clauses of `sound` that look at the head's numbers only

@@ -10,6 +10,7 @@ ghost use Rattle.sound.specs.Passing.{Ready, Passed};
 use crate::counted::finish;
 use crate::record::next;
 use crate::state::State;
+use crate::weight::rows_in;
 use crate::whole::begin;
 use crate::whole::judge;
 use paper::Counted;
@@ -21,6 +22,7 @@ use paper::Set;
 mod counted;
 mod record;
 mod state;
+pub mod weight;
 mod whole;
 
 pub enum Weighed {
@@ -71,7 +73,7 @@ pub fn set_rows(set: Set, work: &[u64]) -> u64
         Set::Record(i) => {
             let root = i as usize;
             if root < work.len() {
-                work[root] / 16
+                rows_in(work[root])
             } else {
                 0
             }

@@ -6,8 +6,12 @@ ghost use Prim.Native.Nat.{_+_, _*_, _≤_, _<_};
 ghost use lib.Dec.{eqb};
 ghost use lib.ListN.{length};
 ghost use Rattle.paper.specs.Sound.{apart, mostRows};
-ghost use Rattle.sound.specs.Steps.{rowsIn, ifFew, singleRows, unionRows, productRows, rowsBy, weightFor, recordFits, Weighable, Steps};
+ghost use Rattle.sound.specs.Steps.{ifFew, singleRows, unionRows, productRows, rowsBy, weightFor, recordFits, Weighable, Steps};
+ghost use Rattle.sound.specs.Weights.{rowsIn};
 use crate::state::State;
+use crate::weight::flag_in;
+use crate::weight::rows_in;
+use crate::weight::weight_of;
 use paper::Flag;
 use paper::Record;
 use places::filled;
@@ -48,7 +52,7 @@ fn single_weight(r: Record) -> u64
     if r.right != 0 {
         return 0;
     }
-    16 + r.flag as u64
+    weight_of(1, r.flag as u64)
 }
 
 // The weight of a union of records with these weights. The rows are added where they stand: a union often waits for the weight of its
@@ -57,11 +61,15 @@ fn union_weight(flag: u64, left: u64, right: u64) -> u64
     requires { ⌜ (0 < rowsIn left) × (rowsIn left ≤ mostRows) × (rowsIn right ≤ mostRows) ⌝ }
     ensures { λ n. ⌜ n ≡ weightFor flag (unionRows flag left right) ⌝ }
 {
-    if !keeps(left % 16, right % 16, flag) {
+    if !keeps(flag_in(left), flag_in(right), flag) {
         return 0;
     }
     let weight = left + (right - flag);
-    if weight / 16 <= MOST_ROWS { weight } else { 0 }
+    if rows_in(weight) <= MOST_ROWS {
+        weight
+    } else {
+        0
+    }
 }
 
 // So many rows times so many, or 0 if they are too many. Two factors of at most 2 to the power of 24 never are, and the division that
@@ -87,11 +95,11 @@ fn product_weight(flag: u64, left: u64, right: u64) -> u64
     requires { ⌜ 0 < rowsIn right ⌝ }
     ensures { λ n. ⌜ n ≡ weightFor flag (productRows flag left right) ⌝ }
 {
-    if !adds(left % 16, right % 16, flag) {
+    if !adds(flag_in(left), flag_in(right), flag) {
         return 0;
     }
-    let rows = few_product(left / 16, right / 16);
-    if rows == 0 { 0 } else { 16 * rows + flag }
+    let rows = few_product(rows_in(left), rows_in(right));
+    if rows == 0 { 0 } else { weight_of(rows, flag) }
 }
 
 // The weight of record `at`, by its kind and its operands.

@@ -6,6 +6,7 @@ ghost use Rattle.sound.specs.Whole.{headFits, begun, setFits, Judges};
 use crate::Weighed;
 use crate::clear;
 use crate::state::State;
+use crate::weight::flag_in;
 use paper::Flag;
 use paper::Head;
 use paper::Refusal;
@@ -65,7 +66,7 @@ fn set_fits(head: Head, work: &[u64]) -> bool
     match set {
         Set::Empty => true,
         Set::Unit => head.open_places == Flag::NONE,
-        Set::Record(i) => i < head.used && work[i as usize] % 16 == head.open_places as u64,
+        Set::Record(i) => i < head.used && flag_in(work[i as usize]) == head.open_places as u64,
     }
 }
 
