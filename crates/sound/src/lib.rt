@@ -8,11 +8,11 @@ ghost use Rattle.sound.specs.Counting.{rowsInSet};
 ghost use Rattle.sound.specs.Face.{Weighs, Counts};
 ghost use Rattle.sound.specs.Passing.{Ready, Passed};
 use crate::counted::finish;
+use crate::head::begin;
+use crate::head::judge;
 use crate::record::next;
 use crate::state::State;
 use crate::weight::rows_in;
-use crate::whole::begin;
-use crate::whole::judge;
 use paper::Counted;
 use paper::Head;
 use paper::Record;
@@ -20,10 +20,12 @@ use paper::Refusal;
 use paper::Set;
 
 mod counted;
+mod head;
+pub mod kind;
+pub mod limits;
 mod record;
 mod state;
 pub mod weight;
-mod whole;
 
 pub enum Weighed {
     Sound,

@@ -6,8 +6,12 @@ ghost use Prim.Native.Nat.{_+_, _*_, _≤_, _<_};
 ghost use lib.Dec.{eqb};
 ghost use lib.ListN.{length};
 ghost use Rattle.paper.specs.Sound.{apart, mostRows};
-ghost use Rattle.sound.specs.Steps.{ifFew, singleRows, unionRows, productRows, rowsBy, weightFor, recordFits, Weighable, Steps};
+ghost use Rattle.sound.specs.OneRecord.{ifFew, singleRows, unionRows, productRows, rowsBy, weightFor, recordFits, Weighable, Steps};
 ghost use Rattle.sound.specs.Weights.{rowsIn};
+use crate::kind::PRODUCT;
+use crate::kind::SINGLE;
+use crate::kind::UNION;
+use crate::limits::MOST_ROWS;
 use crate::state::State;
 use crate::weight::flag_in;
 use crate::weight::rows_in;
@@ -16,8 +20,8 @@ use paper::Flag;
 use paper::Record;
 use places::filled;
 
-// The most rows that a record may list.
-const MOST_ROWS: u64 = 281474976710656;
+// A factor of at most so many rows is small: two of them make no more than the most rows, which is its square.
+const SMALL_FACTOR: u64 = 16777216;
 
 // The number of places a record fills is the number of ones in its flag: a product adds, a union keeps. Document 01 asks for these counts
 // by name ('The shape of some places'), so they stand though flags are compared faster without them (docs/DECISIONS.md, 49). They are
@@ -72,14 +76,14 @@ fn union_weight(flag: u64, left: u64, right: u64) -> u64
     }
 }
 
-// So many rows times so many, or 0 if they are too many. Two factors of at most 2 to the power of 24 never are, and the division that
-// tells of the others is slow.
+// So many rows times so many, or 0 if they are too many. Two small factors never are, and the division that tells of the others is
+// slow.
 fn few_product(rows: u64, times: u64) -> u64
     requires { ⌜ 0 < times ⌝ }
     ensures { λ n. ⌜ n ≡ ifFew (rows * times) ⌝ }
 {
-    if rows <= 16777216 {
-        if times <= 16777216 {
+    if rows <= SMALL_FACTOR {
+        if times <= SMALL_FACTOR {
             return rows * times;
         }
     }
@@ -110,7 +114,7 @@ fn weight_by(r: Record, at: usize, work: &[u64]) -> u64
     let kind = r.kind;
     let left = r.left as usize;
     let right = r.right as usize;
-    if kind == 1 {
+    if kind == SINGLE {
         return single_weight(r);
     }
     if left >= at {
@@ -121,8 +125,8 @@ fn weight_by(r: Record, at: usize, work: &[u64]) -> u64
     }
     let flag = r.flag as u64;
     match kind {
-        2 => union_weight(flag, work[left], work[right]),
-        3 => product_weight(flag, work[left], work[right]),
+        UNION => union_weight(flag, work[left], work[right]),
+        PRODUCT => product_weight(flag, work[left], work[right]),
         _ => 0,
     }
 }

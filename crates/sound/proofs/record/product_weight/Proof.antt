@@ -9,7 +9,7 @@ use borrow.Author.Tests.{eqb-true, ne-eqb, not-false, not-true}
 use lib.Dec.{eqb}
 use Rattle.paper.specs.Sound.{apart, mostRows}
 use Rattle.laws.proofs.Lists.{both-true}
-use Rattle.sound.specs.Steps.{ifFew}
+use Rattle.sound.specs.OneRecord.{ifFew}
 use Rattle.sound.specs.Weights.{flagIn, rowsIn}
 use Rattle.sound.proofs.ByKind.{few-if}
 use Rattle.sound.proofs.record.product_weight.Statement.{statement}

@@ -1,12 +1,12 @@
--- `whole::judge` meets its contract: the three ways out.
+-- `head::judge` meets its contract: the three ways out.
 use mathlib.Core.Bool.{Bool, _&&_, false}
 use mathlib.Core.Logic.{⊎-elim}
 use mathlib.Core.Path.{_∙_, _≡_, ap, ap₂, sym}
-use Rattle.sound.specs.Whole.{setFits}
+use Rattle.sound.specs.Head.{setFits}
 use Rattle.sound.proofs.Judging.{judged-not, judged-short, judged-sound}
 use borrow.Author.Needs.{needs}
-use Rattle.sound.proofs.whole.judge.Statement.{statement}
-use Rattle.sound.proofs.whole.judge.Tie as tie
+use Rattle.sound.proofs.head.judge.Statement.{statement}
+use Rattle.sound.proofs.head.judge.Tie as tie
 
 -- one of the two tests has failed
 module _ (c : tie.Joined2) where

@@ -1,4 +1,4 @@
--- `whole::head_fits` meets its contract: each `return` by the tests that led there. 1 shifted by the arity is 2 to its power.
+-- `head::head_fits` meets its contract: each `return` by the tests that led there. 1 shifted by the arity is 2 to its power.
 use mathlib.Core.Bool.{Bool, and-false, and-true, true}
 use mathlib.Core.List.{[], _∷_}
 use mathlib.Core.Path.{_∙_, _≡_, sym}
@@ -8,9 +8,9 @@ use borrow.Author.Needs.{needs}
 use borrow.Author.Tests.{le-leb, le-ltb, lt-leb, lt-ltb}
 use lib.Pow.{shl-exact}
 use Rattle.paper.specs.Lists.{every}
-use Rattle.sound.specs.Whole.{headFits}
-use Rattle.sound.proofs.whole.head_fits.Statement.{statement}
-use Rattle.sound.proofs.whole.head_fits.Tie as tie
+use Rattle.sound.specs.Head.{headFits}
+use Rattle.sound.proofs.head.head_fits.Statement.{statement}
+use Rattle.sound.proofs.head.head_fits.Tie as tie
 
 shifted : (arity : ℕ) → arity ≤ 4 → (1 * 2 ^ arity) % 2 ^ 16 ≡ 2 ^ arity
 shifted arity h = shl-exact 1 arity 16 (omega arith) (omega arith) ∙ omega arith

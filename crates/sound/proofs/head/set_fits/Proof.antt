@@ -1,4 +1,4 @@
--- `whole::set_fits` meets its contract, by the three kinds of sets.
+-- `head::set_fits` meets its contract, by the three kinds of sets.
 use mathlib.Core.List.{List}
 use mathlib.Core.Path.{_∙_, _≡_, ap, sym}
 use Prim.Native.Nat.{_<_, _≤_, ℕ}
@@ -9,9 +9,9 @@ use lib.ListN.{getD}
 use Rattle.paper.specs.declared.Head.{Head}
 use Rattle.paper.specs.declared.Set.the-variants.{Record as at}
 use Rattle.sound.specs.Weights.{flagIn}
-use Rattle.sound.specs.Whole.{setFits}
-use Rattle.sound.proofs.whole.set_fits.Statement.{statement}
-use Rattle.sound.proofs.whole.set_fits.Tie as tie
+use Rattle.sound.specs.Head.{setFits}
+use Rattle.sound.proofs.head.set_fits.Statement.{statement}
+use Rattle.sound.proofs.head.set_fits.Tie as tie
 
 -- a root that is a used record, and one that is not
 module _ (h : Head) (weights : List ℕ) {i : ℕ} where

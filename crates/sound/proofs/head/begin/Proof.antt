@@ -1,10 +1,10 @@
--- `whole::begin` meets its contract: the state by the two tests.
+-- `head::begin` meets its contract: the state by the two tests.
 use mathlib.Core.Bool.{and-false}
 use mathlib.Core.Path.{_∙_, sym}
 use borrow.Author.Needs.{needs}
 use borrow.Author.Tests.{le-leb, lt-leb, not-false, not-true}
-use Rattle.sound.proofs.whole.begin.Statement.{statement}
-use Rattle.sound.proofs.whole.begin.Tie as tie
+use Rattle.sound.proofs.head.begin.Statement.{statement}
+use Rattle.sound.proofs.head.begin.Tie as tie
 
 cast-t5 : tie.Need-cast-t5
 cast-t5 c = search needs

@@ -1,4 +1,4 @@
--- The beginning of the pass, by the head's numbers, and its end, by the set.
+-- What the head asks for: its numbers, by which the pass begins, and its set, by which it is judged.
 use mathlib.Core.Bool.{Bool, true, false, _&&_}
 use mathlib.Core.List.{List, [], _∷_}
 use mathlib.Core.Path.{_≡_}
@@ -12,7 +12,7 @@ use Rattle.paper.specs.declared.Set.the-variants.{Empty as empty, Unit as unit,
 use Rattle.paper.specs.Lists.{every}
 use Rattle.paper.specs.Refusals.{over}
 use Rattle.paper.specs.Row.{noPlace}
-use Rattle.sound.specs.Steps.{State}
+use Rattle.sound.specs.OneRecord.{State}
 use Rattle.sound.specs.Weights.{Weighed, flagIn}
 use Rattle.sound.specs.declared.Weighed.the-variants as WeighedIs
 

@@ -1,10 +1,14 @@
-// The beginning and the end of the pass.
+// What the head asks for: its numbers before the pass over the records, and its set after it. The pass begins by the first test, and is
+// judged by the second.
 ghost use mathlib.Core.Path.{_≡_};
 ghost use Prim.Native.Nat.{_≤_};
 ghost use lib.ListN.{length};
-ghost use Rattle.sound.specs.Whole.{headFits, begun, setFits, Judges};
+ghost use Rattle.sound.specs.Head.{headFits, begun, setFits, Judges};
 use crate::Weighed;
 use crate::clear;
+use crate::limits::MOST_NODES;
+use crate::limits::MOST_PLACES;
+use crate::limits::MOST_RECORDS;
 use crate::state::State;
 use crate::weight::flag_in;
 use paper::Flag;
@@ -19,19 +23,19 @@ fn head_fits(head: Head, entries: usize) -> bool
     if head.nodes < 1 {
         return false;
     }
-    if head.nodes > 4095 {
+    if head.nodes > MOST_NODES {
         return false;
     }
     if head.arity < 1 {
         return false;
     }
-    if head.arity > 4 {
+    if head.arity > MOST_PLACES {
         return false;
     }
     if head.open_places >= 1u16 << head.arity {
         return false;
     }
-    head.used <= 60000 && head.used as usize <= entries
+    head.used <= MOST_RECORDS && head.used as usize <= entries
 }
 
 // The pass stands at the first record, if the head fits and the work is long enough.
