@@ -6,6 +6,9 @@ use crate::flag::open_from;
 use crate::state::State;
 use paper::Record;
 use places::has_place;
+use sound::kind::SINGLE;
+use sound::kind::UNION;
+use sound::limits::PLACES;
 use sound::weight::flag_in;
 use sound::weight::rows_in;
 
@@ -42,7 +45,7 @@ fn place_node(t: State, node: u16) -> State
     s.place = open_from(t.asked.open_places, place + 1);
     s.at = t.start;
     s.number = t.listed;
-    s.going = s.place < 4;
+    s.going = s.place < PLACES;
     s
 }
 
@@ -80,10 +83,10 @@ pub(crate) fn next(t: State, r: Record, work: &mut [u64]) -> State
     ensures { λ s. ⌜ Steps t r (now (work .entry)) s (now (work .exit)) ⌝ }
 {
     let kind = r.kind;
-    if kind == 1 {
+    if kind == SINGLE {
         return place_node(t, r.node);
     }
-    if kind == 2 {
+    if kind == UNION {
         return union_side(t, r, &*work);
     }
     product_side(t, r, &*work)

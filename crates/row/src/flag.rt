@@ -3,18 +3,19 @@ ghost use mathlib.Core.Path.{_≡_};
 ghost use Prim.Native.Nat.{_≤_};
 ghost use Rattle.row.specs.Descent.{openFrom};
 use places::has_place;
+use sound::limits::PLACES;
 
-// The first place of the flag from an index on; 4 if there is none.
+// The first place of the flag from an index on; `PLACES`, which is no index, if there is none.
 pub(crate) fn open_from(flag: u16, index: usize) -> usize
     requires { ⌜ index ≤ 4 ⌝ }
     ensures { λ r. ⌜ r ≡ openFrom flag index ⌝ }
 {
     let mut i = index;
-    while i < 4 {
+    while i < PLACES {
         if has_place(flag, i) {
             return i;
         }
         i += 1;
     }
-    4
+    PLACES
 }

@@ -3,9 +3,9 @@
 ghost use Rattle.row.specs.Descending.{Ready, Descended};
 ghost use Rattle.row.specs.Face.{Numbers};
 use crate::descent::next;
+use crate::output::finish;
+use crate::start::begin;
 use crate::state::State;
-use crate::whole::begin;
-use crate::whole::finish;
 use paper::Head;
 use paper::Record;
 use paper::Written;
@@ -13,8 +13,9 @@ use sound::weigh;
 
 mod descent;
 mod flag;
+mod output;
+mod start;
 mod state;
-mod whole;
 
 // The row with this number, one entry a place, in the first entries of `out`.
 pub fn row(head: Head, table: &[Record], work: &mut [u64], number: u64, out: &mut [u16]) -> Written

@@ -1,5 +1,6 @@
 // Where the search for a row stands between two turns.
 use paper::Written;
+use sound::limits::PLACES;
 
 // What is asked for, which stays: row `number` of record `root`, that fills `open_places`, in a set of so many places and used records.
 // `answer` is a refusal only where no turn is taken; the arity is then 0, so that nothing is written.
@@ -20,7 +21,7 @@ pub(crate) struct State {
     pub(crate) start: usize,
     pub(crate) listed: u64,
     pub(crate) place: usize,
-    pub(crate) row: [u16; 4],
+    pub(crate) row: [u16; PLACES],
     pub(crate) asked: Asked,
     pub(crate) going: bool,
 }

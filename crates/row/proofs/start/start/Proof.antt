@@ -1,10 +1,10 @@
--- `whole::start` tests the row number and the room, and begins at the root.
+-- `start::start` tests the row number and the room, and begins at the root.
 use mathlib.Core.Path.{_∙_, sym}
 use native.Mathlib.Omega.{arith}
 use borrow.Author.Needs.{needs}
 use Rattle.row.proofs.Beginnings.{number-refused, room-refused, seeks}
-use Rattle.row.proofs.whole.start.Statement.{statement}
-use Rattle.row.proofs.whole.start.Tie as tie
+use Rattle.row.proofs.start.start.Statement.{statement}
+use Rattle.row.proofs.start.start.Tie as tie
 
 cast-used : tie.Need-cast-used
 cast-used c = search needs

@@ -1,4 +1,4 @@
--- `whole::write` writes an entry a turn.
+-- `output::write` writes an entry a turn.
 use mathlib.Core.List.{List}
 use mathlib.Core.Path.{_∙_, _≡_, ap, refl}
 use Prim.Native.Nat.{_-_, _≤_, ℕ}
@@ -6,8 +6,8 @@ use native.Mathlib.Omega.{arith}
 use lib.ListN.{getD, length, set, take}
 use Rattle.paper.specs.Refusals.{over}
 use Rattle.row.proofs.Writing.{written-long, written-more}
-use Rattle.row.proofs.whole.write.Statement.{statement}
-use Rattle.row.proofs.whole.write.Tie as tie
+use Rattle.row.proofs.output.write.Statement.{statement}
+use Rattle.row.proofs.output.write.Tie as tie
 
 abbrev Inv-loop : tie.InvT-loop
 Inv-loop arity out₀ row i₀ out i = (i ≤ arity) × (out ≡ over (take i row) out₀)

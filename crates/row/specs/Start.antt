@@ -1,19 +1,15 @@
--- The beginning and the end of the search for a row. First the set's root, then the first state, by what `weigh` has answered and the
--- tests 9 and 10, then what is left at the end.
+-- The beginning of the search for a row. First the set's root, then the first state, by what `weigh` has answered and the tests 9 and 10.
 use mathlib.Core.Bool.{cond}
 use mathlib.Core.List.{List, [], _∷_}
 use mathlib.Core.Path.{_≡_}
-use Prim.Native.Nat.{ℕ, _≤_, min}
+use Prim.Native.Nat.{ℕ}
 use lib.Dec.{leb, ltb}
-use lib.ListN.{length, replicate, take}
 use Rattle.paper.specs.declared.Head.{Head}
 use Rattle.paper.specs.declared.Refusal.{Refusal}
 use Rattle.paper.specs.declared.Refusal.the-variants.{RowNumber, ShortOutput}
 use Rattle.paper.specs.declared.Set.{Set}
 use Rattle.paper.specs.declared.Set.the-variants as SetIs
-use Rattle.paper.specs.declared.Written.{Written}
 use Rattle.paper.specs.declared.Written.the-variants as WrittenIs
-use Rattle.paper.specs.Refusals.{over}
 use Rattle.paper.specs.Row.{Row, blank, noPlace}
 use Rattle.sound.specs.Counting.{rowsInSet}
 use Rattle.sound.specs.declared.Weighed.{Weighed}
@@ -66,14 +62,3 @@ begun (WeighedIs.Refused why) h work number room = refusedWith why 0
 pub record Begins (w : Weighed) (h : Head) (work : List ℕ) (number room : ℕ) (s : State) (work′ : List ℕ) : Type 0 where
   pub state : s ≡ begun w h work number room
   pub kept : work′ ≡ work
-
--- ---- the end
--- the output has room for the row; where the question is refused, the arity is 0
-pub record Writable (e : State) (out : List ℕ) : Type 0 where
-  pub few : e .asked .arity ≤ 4
-  pub room : e .asked .arity ≤ length out
-
-pub record Finishes (e : State) (work out : List ℕ) (r : Written) (work′ out′ : List ℕ) : Type 0 where
-  pub answer : r ≡ e .asked .answer
-  pub worked : work′ ≡ over (replicate (min (e .asked .used) (length work)) 0) work
-  pub written : out′ ≡ over (take (e .asked .arity) (e .row)) out

@@ -1,10 +1,10 @@
--- `whole::begin` goes by what `weigh` has answered.
+-- `start::begin` goes by what `weigh` has answered.
 use mathlib.Core.Path.{_∙_, ap, refl, sym}
 use borrow.Author.Needs.{needs}
 use Rattle.sound.specs.declared.Weighed.{Weighed}
-use Rattle.row.specs.Whole.{begun}
-use Rattle.row.proofs.whole.begin.Statement.{statement}
-use Rattle.row.proofs.whole.begin.Tie as tie
+use Rattle.row.specs.Start.{begun}
+use Rattle.row.proofs.start.begin.Statement.{statement}
+use Rattle.row.proofs.start.begin.Tie as tie
 
 enum-known-w : tie.Need-enum-known-w
 enum-known-w c = search needs

@@ -1,9 +1,6 @@
-// The beginning and the end of the search for a row.
+// The beginning of the search for a row: the set's root, the first descent from it, and the refusals 9 and 10.
 ghost use mathlib.Core.Path.{_≡_};
-ghost use Prim.Native.Nat.{_≤_, _<_};
-ghost use lib.ListN.{length, take};
-ghost use Rattle.paper.specs.Refusals.{over};
-ghost use Rattle.row.specs.Whole.{rootIn, atRoot, refusedWith, started, Begins, Writable, Finishes};
+ghost use Rattle.row.specs.Start.{rootIn, atRoot, refusedWith, started, Begins};
 use crate::flag::open_from;
 use crate::state::Asked;
 use crate::state::State;
@@ -14,7 +11,7 @@ use paper::Refusal;
 use paper::Set;
 use paper::Written;
 use sound::Weighed;
-use sound::clear;
+use sound::limits::PLACES;
 use sound::set_rows;
 
 // The record where the first descent begins. Empty and unit have none, and no descent.
@@ -28,7 +25,7 @@ fn root_in(set: Set) -> usize
     }
 }
 
-// The first descent, for this place, begins at the root. Index 4 is no place, and no descent.
+// The first descent, for this place, begins at the root. The index `PLACES` is no place, and no descent.
 fn at_root(asked: Asked, place: usize) -> State
     ensures { λ s. ⌜ s ≡ atRoot asked place ⌝ }
 {
@@ -38,9 +35,9 @@ fn at_root(asked: Asked, place: usize) -> State
         start: asked.root,
         listed: asked.number,
         place: place,
-        row: [Place::BLANK; 4],
+        row: [Place::BLANK; PLACES],
         asked: asked,
-        going: place < 4,
+        going: place < PLACES,
     }
 }
 
@@ -56,7 +53,7 @@ fn refused(why: Refusal, used: usize) -> State
         open_places: Flag::NONE,
         answer: Written::Refused(why),
     };
-    at_root(asked, 4)
+    at_root(asked, PLACES)
 }
 
 // Of a sound set: the first descent, for the first open place.
@@ -91,27 +88,4 @@ pub(crate) fn begin(w: Weighed, head: Head, work: &mut [u64], number: u64, room:
         Weighed::Refused(why) => refused(why, 0),
         Weighed::Sound => start(head, &*work, number, room),
     }
-}
-
-// The row's first entries, one a place.
-fn write(row: [u16; 4], arity: usize, out: &mut [u16])
-    requires { ⌜ (arity ≤ 4) × (arity ≤ length (now out)) ⌝ }
-    ensures { λ _. ⌜ now (out .exit) ≡ over (take arity row) (now (out .entry)) ⌝ }
-{
-    let mut i = 0;
-    while i < arity {
-        out[i] = row[i];
-        i += 1;
-    }
-}
-
-pub(crate) fn finish(e: State, work: &mut [u64], out: &mut [u16]) -> Written
-    requires { ⌜ Writable e (now out) ⌝ }
-    ensures { λ r. ⌜ Finishes e (now (work .entry)) (now (out .entry)) r (now (work .exit)) (now (out .exit)) ⌝ }
-{
-    let asked = e.asked;
-    let row = e.row;
-    clear(&mut *work, asked.used);
-    write(row, asked.arity, &mut *out);
-    asked.answer
 }

@@ -1,0 +1,33 @@
+// The end of the search for a row: the row goes into the lent output, and the work is cleared.
+ghost use mathlib.Core.Path.{_≡_};
+ghost use Prim.Native.Nat.{_≤_};
+ghost use lib.ListN.{length, take};
+ghost use Rattle.paper.specs.Refusals.{over};
+ghost use Rattle.row.specs.Output.{Writable, Finishes};
+use crate::state::State;
+use paper::Written;
+use sound::clear;
+use sound::limits::PLACES;
+
+// The row's first entries, one a place.
+fn write(row: [u16; PLACES], arity: usize, out: &mut [u16])
+    requires { ⌜ (arity ≤ 4) × (arity ≤ length (now out)) ⌝ }
+    ensures { λ _. ⌜ now (out .exit) ≡ over (take arity row) (now (out .entry)) ⌝ }
+{
+    let mut i = 0;
+    while i < arity {
+        out[i] = row[i];
+        i += 1;
+    }
+}
+
+pub(crate) fn finish(e: State, work: &mut [u64], out: &mut [u16]) -> Written
+    requires { ⌜ Writable e (now out) ⌝ }
+    ensures { λ r. ⌜ Finishes e (now (work .entry)) (now (out .entry)) r (now (work .exit)) (now (out .exit)) ⌝ }
+{
+    let asked = e.asked;
+    let row = e.row;
+    clear(&mut *work, asked.used);
+    write(row, asked.arity, &mut *out);
+    asked.answer
+}
