@@ -5,6 +5,9 @@ ghost use Rattle.paper.specs.Questions.{hasPlace, without};
 ghost use Rattle.paper.specs.Refusals.{isOpen};
 use paper::Head;
 
+// The bits of a flag, which is a u16. A sound set has flags of at most four places, but these functions answer for any flag.
+const BITS: usize = 16;
+
 // How many places a flag has.
 pub fn filled(flag: u64) -> u32
     ensures { λ n. ⌜ n ≡ ones flag ⌝ }
@@ -16,14 +19,14 @@ pub fn filled(flag: u64) -> u32
 pub fn has_place(flag: u16, index: usize) -> bool
     ensures { λ r. ⌜ r ≡ hasPlace flag index ⌝ }
 {
-    index < 16 && (flag >> index) % 2 == 1
+    index < BITS && (flag >> index) % 2 == 1
 }
 
 // The flag without that place.
 pub fn without_place(flag: u16, index: usize) -> u16
     ensures { λ r. ⌜ r ≡ without flag index ⌝ }
 {
-    if index < 16 {
+    if index < BITS {
         flag - (flag & 1u16 << index)
     } else {
         flag
