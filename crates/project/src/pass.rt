@@ -2,9 +2,11 @@
 // then, for a single with the place, its node and 1 more; else 0.
 ghost use mathlib.Core.Path.{_≡_};
 ghost use Rattle.project.specs.Passing.{InWork, Passes, cellsAfter, kept};
+use crate::state::MARKED;
 use crate::state::State;
 use paper::Record;
 use places::has_place;
+use sound::kind::SINGLE;
 
 // What a single under the root keeps in its cell.
 fn keep(r: Record, index: usize) -> u64
@@ -22,18 +24,18 @@ fn look(at: usize, index: usize, r: Record, work: &mut [u64])
     ensures { λ _. ⌜ now (work .exit) ≡ cellsAfter index at r (now (work .entry)) ⌝ }
 {
     let mark = work[at];
-    if mark != 1 {
+    if mark != MARKED {
         return;
     }
-    if r.kind == 1 {
+    if r.kind == SINGLE {
         work[at] = keep(r, index);
         return;
     }
     let left = r.left as usize;
     let right = r.right as usize;
     work[at] = 0;
-    work[left] = 1;
-    work[right] = 1;
+    work[left] = MARKED;
+    work[right] = MARKED;
 }
 
 pub(crate) fn next(t: State, r: Record, work: &mut [u64]) -> State

@@ -2,6 +2,7 @@
 ghost use mathlib.Core.Path.{_≡_};
 ghost use Prim.Native.Nat.{_≤_};
 ghost use Rattle.project.specs.Starting.{refusedState, rootState, rootMarked, started, startedWork, Begins};
+use crate::state::MARKED;
 use crate::state::State;
 use paper::Head;
 use paper::Projected;
@@ -43,7 +44,7 @@ fn at_root(head: Head, work: &mut [u64], place: u16) -> State
         Set::Record(number) => {
             let root = number as usize;
             if root < work.len() {
-                work[root] = 1;
+                work[root] = MARKED;
             }
             s.at = root;
             s.going = true;
