@@ -1,17 +1,18 @@
 // Member: whether a set lists a row. One pass upwards over its records, as far as the root.
 ghost use Rattle.member.specs.Face.{Members};
 ghost use Rattle.member.specs.Driving.{Ready, Driven};
+use crate::answer::finish;
 use crate::pass::State;
 use crate::pass::next;
-use crate::whole::begin;
-use crate::whole::finish;
+use crate::start::begin;
 use paper::Head;
 use paper::Member;
 use paper::Record;
 use sound::weigh;
 
+mod answer;
 mod pass;
-mod whole;
+mod start;
 
 // Whether the set lists the row.
 pub fn member(head: Head, table: &[Record], work: &mut [u64], row: &[u16]) -> Member

@@ -7,24 +7,27 @@ ghost use Rattle.member.specs.Rows.{stands};
 ghost use Rattle.member.specs.Pass.{lists, answerOf, Reads, Turns};
 use paper::Member;
 use paper::Record;
+use sound::kind::SINGLE;
+use sound::kind::UNION;
+use sound::limits::PLACES;
 
 // `at` is the record that comes next, `root` the last one. `row` is the row asked for, blank behind its end. `answer` is the present
 // record's: at the end the root's.
 pub(crate) struct State {
     pub(crate) at: usize,
     pub(crate) root: usize,
-    pub(crate) row: [u16; 4],
+    pub(crate) row: [u16; PLACES],
     pub(crate) answer: Member,
     pub(crate) going: bool,
 }
 
 // Whether the node stands at each place of the flag.
-fn stands(row: [u16; 4], node: u16, flag: u16) -> bool
+fn stands(row: [u16; PLACES], node: u16, flag: u16) -> bool
     ensures { λ r. ⌜ r ≡ stands node flag row ⌝ }
 {
     let mut rest = flag;
     let mut i = 0;
-    while i < 4 {
+    while i < PLACES {
         if rest % 2 == 1 {
             if node != row[i] {
                 return false;
@@ -37,18 +40,18 @@ fn stands(row: [u16; 4], node: u16, flag: u16) -> bool
 }
 
 // Whether the record lists the row restricted to its flag, by its operands' cells.
-fn lists(row: [u16; 4], r: Record, work: &[u64]) -> bool
+fn lists(row: [u16; PLACES], r: Record, work: &[u64]) -> bool
     requires { ⌜ (r .left < length (now work)) × (r .right < length (now work)) ⌝ }
     ensures { λ c. ⌜ c ≡ lists row (now (work .entry)) r ⌝ }
 {
-    if r.kind == 1 {
+    if r.kind == SINGLE {
         return stands(row, r.node, r.flag);
     }
     let left = r.left as usize;
     let right = r.right as usize;
     let in_left = work[left] == 1;
     let in_right = work[right] == 1;
-    if r.kind == 2 {
+    if r.kind == UNION {
         return in_left | in_right;
     }
     in_left & in_right

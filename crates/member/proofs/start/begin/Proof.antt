@@ -1,10 +1,10 @@
--- `whole::begin` goes by what `weigh` said.
+-- `start::begin` goes by what `weigh` said.
 use mathlib.Core.Path.{_∙_, ap, subst, sym}
 use borrow.Author.Needs.{needs}
 use Rattle.sound.specs.declared.Weighed.{Weighed}
-use Rattle.member.specs.Whole.{FewPlaces, begun}
-use Rattle.member.proofs.whole.begin.Statement.{statement}
-use Rattle.member.proofs.whole.begin.Tie as tie
+use Rattle.member.specs.Start.{FewPlaces, begun}
+use Rattle.member.proofs.start.begin.Statement.{statement}
+use Rattle.member.proofs.start.begin.Tie as tie
 
 enum-known-w : tie.Need-enum-known-w
 enum-known-w c = search needs

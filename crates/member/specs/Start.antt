@@ -1,17 +1,14 @@
--- The beginning and the end of the question.
+-- The beginning of the question: the tests of the row, and the pass before its first turn.
 use mathlib.Core.Bool.{Bool, true, cond}
-use mathlib.Core.List.{List}
-use mathlib.Core.Path.{_≡_}
 use Prim.Native.Nat.{ℕ, _≤_}
-use lib.Dec.{eqb, leb, ltb}
-use lib.ListN.{length, replicate}
+use lib.Dec.{eqb, ltb}
+use lib.ListN.{length}
 use Rattle.paper.specs.declared.Head.{Head}
-use Rattle.paper.specs.declared.Member.{Member}
 use Rattle.paper.specs.declared.Member.the-variants.{Listed, NotListed, Refused}
 use Rattle.paper.specs.declared.Refusal.the-variants.{Node, RowLength}
 use Rattle.paper.specs.declared.Set.{Set}
 use Rattle.paper.specs.declared.Set.the-variants.{Empty as empty, Unit as unit, Record as at}
-use Rattle.paper.specs.Refusals.{entriesFit, over}
+use Rattle.paper.specs.Refusals.{entriesFit}
 use Rattle.paper.specs.Row.{Row, blank}
 use Rattle.sound.specs.declared.Weighed.{Weighed}
 use Rattle.sound.specs.declared.Weighed.the-variants as WeighedIs
@@ -41,11 +38,3 @@ startOf h row =
 abbrev pub begun : Weighed → Head → Row → State
 begun WeighedIs.Sound h row = startOf h row
 begun (WeighedIs.Refused r) h row = stopped (Refused r)
-
--- the first n numbers are 0
-abbrev pub cleared : ℕ → List ℕ → List ℕ
-cleared n work = over (replicate n 0) work
-
-pub record Finishes (t : State) (h : Head) (work : List ℕ) (r : Member) (work′ : List ℕ) : Type 0 where
-  pub answer : r ≡ t .answer
-  pub worked : work′ ≡ cond (leb (h .used) (length work)) (cleared (h .used) work) work

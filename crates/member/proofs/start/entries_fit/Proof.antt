@@ -1,4 +1,4 @@
--- `whole::entries_fit` tests the entries, one a turn: all fit if those that are left do.
+-- `start::entries_fit` tests the entries, one a turn: all fit if those that are left do.
 use mathlib.Core.Path.{_∙_, _≡_, ap, refl, sym}
 use Prim.Native.Nat.{_+_, _-_, _≤_, ℕ}
 use native.Mathlib.Omega.{arith}
@@ -7,8 +7,8 @@ use lib.ListN.{drop, drop-of-length-le, length}
 use Rattle.paper.specs.Questions.{hasPlace}
 use Rattle.paper.specs.Refusals.{entriesFit}
 use Rattle.member.proofs.Loops.{fits-more, fits-not, places-more}
-use Rattle.member.proofs.whole.entries_fit.Statement.{statement}
-use Rattle.member.proofs.whole.entries_fit.Tie as tie
+use Rattle.member.proofs.start.entries_fit.Statement.{statement}
+use Rattle.member.proofs.start.entries_fit.Tie as tie
 
 -- and `rest` has the places that are left
 abbrev Inv-loop : tie.InvT-loop

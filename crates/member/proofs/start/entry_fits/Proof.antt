@@ -1,6 +1,6 @@
--- `whole::entry_fits` tests one entry.
-use Rattle.member.proofs.whole.entry_fits.Statement.{statement}
-use Rattle.member.proofs.whole.entry_fits.Tie as tie
+-- `start::entry_fits` tests one entry.
+use Rattle.member.proofs.start.entry_fits.Statement.{statement}
+use Rattle.member.proofs.start.entry_fits.Tie as tie
 
 returns : tie.Need-returns
 returns c = rw (c .if1 .taken)

@@ -1,11 +1,11 @@
--- `whole::finish` gives the answer, and clears the work where it is as long as asked.
+-- `answer::finish` gives the answer, and clears the work where it is as long as asked.
 use mathlib.Core.Path.{_∙_, refl}
 use borrow.Author.Needs.{needs}
 use borrow.Author.Tests.{le-leb, lt-leb}
 use lib.ListN.{length}
 use Rattle.sound.proofs.Overwriting.{cleared-all}
-use Rattle.member.proofs.whole.finish.Statement.{statement}
-use Rattle.member.proofs.whole.finish.Tie as tie
+use Rattle.member.proofs.answer.finish.Statement.{statement}
+use Rattle.member.proofs.answer.finish.Tie as tie
 
 cast-used : tie.Need-cast-used
 cast-used c = search needs

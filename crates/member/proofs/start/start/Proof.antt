@@ -1,11 +1,11 @@
--- `whole::start` tests the row.
+-- `start::start` tests the row.
 use mathlib.Core.Path.{_≡_}
 use native.Mathlib.Omega.{arith}
 use borrow.Author.Needs.{needs}
 use borrow.Author.Tests.{eq-eqb, ne-eqb, not-false, not-true}
 use lib.ListN.{length}
-use Rattle.member.proofs.whole.start.Statement.{statement}
-use Rattle.member.proofs.whole.start.Tie as tie
+use Rattle.member.proofs.start.start.Statement.{statement}
+use Rattle.member.proofs.start.start.Tie as tie
 
 cast-if1 : tie.Need-cast-if1
 cast-if1 c = search needs

@@ -1,11 +1,11 @@
-// The beginning and the end of the question.
+// The beginning of the question: whether the row fits the head, refusals 13 and 8, and the pass before its first turn.
 ghost use mathlib.Core.Path.{_≡_};
 ghost use Prim.Native.Nat.{_≤_};
 ghost use lib.ListN.{length};
 ghost use Rattle.paper.specs.Refusals.{entriesFit};
 ghost use Rattle.member.specs.Pass.{stopped};
 ghost use Rattle.member.specs.Rows.{padded};
-ghost use Rattle.member.specs.Whole.{FewPlaces, entryFits, firstOf, startOf, begun, Finishes};
+ghost use Rattle.member.specs.Start.{FewPlaces, entryFits, firstOf, startOf, begun};
 use crate::pass::State;
 use paper::Head;
 use paper::Member;
@@ -13,7 +13,7 @@ use paper::Place;
 use paper::Refusal;
 use paper::Set;
 use sound::Weighed;
-use sound::clear;
+use sound::limits::PLACES;
 
 // Whether an entry fits its place: a node of the tree at an open one, blank at a fixed one.
 fn entry_fits(open_place: bool, nodes: u16, entry: u16) -> bool
@@ -43,11 +43,11 @@ fn entries_fit(head: Head, row: &[u16]) -> bool
 }
 
 // The row, blank behind its end.
-fn padded(row: &[u16]) -> [u16; 4]
+fn padded(row: &[u16]) -> [u16; PLACES]
     requires { ⌜ length (now row) ≤ 4 ⌝ }
     ensures { λ r. ⌜ r ≡ padded (now (row .entry)) ⌝ }
 {
-    let mut four = [Place::BLANK; 4];
+    let mut four = [Place::BLANK; PLACES];
     let mut i = 0;
     while i < row.len() {
         four[i] = row[i];
@@ -63,7 +63,7 @@ fn stopped(answer: Member) -> State
     State {
         at: 0,
         root: 0,
-        row: [Place::BLANK; 4],
+        row: [Place::BLANK; PLACES],
         answer: answer,
         going: false,
     }
@@ -111,16 +111,4 @@ pub(crate) fn begin(w: Weighed, head: Head, row: &[u16]) -> State
         Weighed::Refused(why) => stopped(Member::Refused(why)),
         Weighed::Sound => start(head, row),
     }
-}
-
-// The answer. The work is cleared where it is as long as asked.
-pub(crate) fn finish(t: State, head: Head, work: &mut [u64]) -> Member
-    ensures { λ r. ⌜ Finishes t head (now (work .entry)) r (now (work .exit)) ⌝ }
-{
-    let used = head.used as usize;
-    if used <= work.len() {
-        clear(&mut *work, used);
-    }
-    let answer = t.answer;
-    answer
 }

@@ -1,4 +1,4 @@
--- `whole::padded` writes the row's entries over blanks, one a turn.
+-- `start::padded` writes the row's entries over blanks, one a turn.
 use mathlib.Core.List.{List}
 use mathlib.Core.Path.{_∙_, _≡_, ap, refl}
 use Prim.Native.Nat.{_-_, _≤_, ℕ}
@@ -6,8 +6,8 @@ use native.Mathlib.Omega.{arith}
 use lib.ListN.{getD, length, replicate, set}
 use Rattle.paper.specs.Row.{blank}
 use Rattle.member.proofs.Loops.{written, written-all, written-more}
-use Rattle.member.proofs.whole.padded.Statement.{statement}
-use Rattle.member.proofs.whole.padded.Tie as tie
+use Rattle.member.proofs.start.padded.Statement.{statement}
+use Rattle.member.proofs.start.padded.Tie as tie
 
 abbrev Inv-loop : tie.InvT-loop
 Inv-loop row four₀ i₀ four i = (i ≤ length row) × (four ≡ written row (replicate 4 blank) i)

@@ -1,12 +1,12 @@
--- `whole::first` goes by the set.
+-- `start::first` goes by the set.
 use mathlib.Core.Bool.{true}
 use mathlib.Core.Path.{_∙_, ap, sym}
 use borrow.Author.Needs.{needs}
 use Rattle.paper.specs.declared.Member.the-variants.{NotListed}
 use Rattle.paper.specs.declared.Set.{Set}
-use Rattle.member.specs.Whole.{firstOf}
-use Rattle.member.proofs.whole.first.Statement.{statement}
-use Rattle.member.proofs.whole.first.Tie as tie
+use Rattle.member.specs.Start.{firstOf}
+use Rattle.member.proofs.start.first.Statement.{statement}
+use Rattle.member.proofs.start.first.Tie as tie
 
 enum-told : tie.Need-enum-told
 enum-told c = search needs
