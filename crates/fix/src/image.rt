@@ -1,5 +1,5 @@
-// What becomes of one record where a place is fixed at a node: the paper's image. A set is a number here: 0 is empty, 1 is unit, i + 2 is
-// record i of the new table, which has `made` records so far, at most 60,000: so the number of a record fits its field.
+// What becomes of one record where a place is fixed at a node: the paper's image. A set is a number here, as `table` reads it. The new table
+// has `made` records so far, at most 60,000: so the number of a record fits its field.
 ghost use mathlib.Core.Path.{_≡_};
 ghost use Prim.Native.Nat.{_+_, _-_, _≤_};
 ghost use Rattle.paper.specs.Building.{singleRecord, productRecord, unionRecord};
@@ -8,6 +8,16 @@ use paper::Flag;
 use paper::Record;
 use places::has_place;
 use places::without_place;
+use sound::kind::PRODUCT;
+use sound::kind::SINGLE;
+use sound::kind::UNION;
+
+// The numbers of sets: empty, unit, and record 0 of the new table, behind which come the others.
+pub(crate) const EMPTY: u64 = 0;
+
+pub(crate) const UNIT: u64 = 1;
+
+pub(crate) const FIRST_RECORD: u64 = 2;
 
 // The set that a record becomes, and the record that is new if one is: `count` is 0 or 1.
 pub(crate) struct Image {
@@ -39,7 +49,7 @@ fn one_record(new: Record, made: usize) -> Image
     ensures { λ r. ⌜ r ≡ newest new made ⌝ }
 {
     Image {
-        set: made as u64 + 2,
+        set: made as u64 + FIRST_RECORD,
         count: 1,
         new: new,
     }
@@ -51,10 +61,10 @@ fn single(node: u16, flag: u16, made: usize) -> Image
     ensures { λ r. ⌜ Makes (singleRecord node flag) made r ⌝ }
 {
     if flag == Flag::NONE {
-        return no_record(1);
+        return no_record(UNIT);
     }
     let new = Record {
-        kind: 1,
+        kind: SINGLE,
         node: node,
         left: 0,
         right: 0,
@@ -69,17 +79,17 @@ fn union(node: u16, flag: u16, left: u64, right: u64, made: usize) -> Image
     requires { ⌜ (left ≤ made + 1) × (right ≤ made + 1) ⌝ }
     ensures { λ r. ⌜ Makes (unionRecord node flag (setIn left) (setIn right)) made r ⌝ }
 {
-    if left == 0 {
+    if left == EMPTY {
         return no_record(right);
     }
-    if left == 1 || right < 2 {
+    if left == UNIT || right < FIRST_RECORD {
         return no_record(left);
     }
     let new = Record {
-        kind: 2,
+        kind: UNION,
         node: node,
-        left: (left - 2) as u16,
-        right: (right - 2) as u16,
+        left: (left - FIRST_RECORD) as u16,
+        right: (right - FIRST_RECORD) as u16,
         flag: flag,
     };
     one_record(new, made)
@@ -91,17 +101,17 @@ fn product(node: u16, flag: u16, left: u64, right: u64, made: usize) -> Image
     requires { ⌜ (left ≤ made + 1) × (right ≤ made + 1) ⌝ }
     ensures { λ r. ⌜ Makes (productRecord node flag (setIn left) (setIn right)) made r ⌝ }
 {
-    if left == 0 || right == 1 {
+    if left == EMPTY || right == UNIT {
         return no_record(left);
     }
-    if left == 1 || right == 0 {
+    if left == UNIT || right == EMPTY {
         return no_record(right);
     }
     let new = Record {
-        kind: 3,
+        kind: PRODUCT,
         node: node,
-        left: (left - 2) as u16,
-        right: (right - 2) as u16,
+        left: (left - FIRST_RECORD) as u16,
+        right: (right - FIRST_RECORD) as u16,
         flag: flag,
     };
     one_record(new, made)
@@ -123,13 +133,13 @@ pub(crate) fn image_of(
 {
     let index = (place - 1) as usize;
     let flag = without_place(r.flag, index);
-    if r.kind == 1 {
+    if r.kind == SINGLE {
         if has_place(r.flag, index) && r.node != node {
-            return no_record(0);
+            return no_record(EMPTY);
         }
         return single(r.node, flag, made);
     }
-    if r.kind == 2 {
+    if r.kind == UNION {
         return union(r.node, flag, left, right, made);
     }
     product(r.node, flag, left, right, made)

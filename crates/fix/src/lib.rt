@@ -1,20 +1,22 @@
 // Fixing a place at a node: a new set in a second table.
 ghost use Rattle.fix.specs.Face.{Fixes};
 ghost use Rattle.fix.specs.Passes.{MayImage, ImagesDone, MayRecord, RecordsDone};
+use crate::answer::finish;
+use crate::start::again;
+use crate::start::begin;
 use crate::state::State;
+use crate::turn::RECORD_NUMBERS;
 use crate::turn::image_turn;
 use crate::turn::record_turn;
-use crate::whole::again;
-use crate::whole::begin;
-use crate::whole::finish;
 use paper::Fixed;
 use paper::Head;
 use paper::Record;
 
+mod answer;
 mod image;
+mod start;
 mod state;
 mod turn;
-mod whole;
 
 // The set with the place fixed at the node, in the target. The first pass finds the refusal 12 before the second writes anything.
 pub fn fix(
@@ -32,7 +34,7 @@ pub fn fix(
     let s = begin(w, head, place, node, entries);
     let t = images(source, s, &mut *work);
     let second = again(t);
-    let mut batch: [u16; 5] = [0; 5];
+    let mut batch: [u16; RECORD_NUMBERS] = [0; RECORD_NUMBERS];
     let e = records(source, second, &mut *work, &mut *target, &mut batch);
     finish(e, head, &mut *work)
 }

@@ -5,19 +5,27 @@ ghost use lib.ListN.{length};
 ghost use Rattle.table.specs.Batch.{recordAt};
 ghost use Rattle.fix.specs.Sets.{operandIn};
 ghost use Rattle.fix.specs.Turns.{Turning, Imaged, Recorded};
+use crate::image::EMPTY;
+use crate::image::FIRST_RECORD;
+use crate::image::UNIT;
 use crate::image::image_of;
 use crate::state::State;
 use crate::state::pass;
 use crate::state::stop;
 use paper::Record;
+use sound::kind::SINGLE;
+use sound::kind::UNION;
+
+// A record in the batch is five numbers: kind, node, left, right, flag.
+pub(crate) const RECORD_NUMBERS: usize = 5;
 
 // What an operand of a record of this kind has become; empty for a single, which has none.
 fn operand(work: &[u64], kind: u16, number: u16) -> u64
     requires { ⌜ ((kind ≡ 1 → ⊥) → number < length (now work)) ⌝ }
     ensures { λ r. ⌜ r ≡ operandIn (now (work .entry)) kind number ⌝ }
 {
-    if kind == 1 {
-        return 0;
+    if kind == SINGLE {
+        return EMPTY;
     }
     work[number as usize]
 }
@@ -30,7 +38,7 @@ pub(crate) fn image_turn(t: State, r: Record, work: &mut [u64]) -> State
     let at = t.at;
     let left = operand(&*work, r.kind, r.left);
     let right = operand(&*work, r.kind, r.right);
-    if left == 1 && right == 1 && r.kind == 2 {
+    if left == UNIT && right == UNIT && r.kind == UNION {
         return stop(t);
     }
     let image = image_of(r, t.place, t.node, left, right, t.made);
@@ -57,7 +65,7 @@ pub(crate) fn record_turn(t: State, r: Record, work: &mut [u64], batch: &mut [u1
     ensures { λ s. ⌜ Recorded t r (now (work .entry)) s (now (work .exit)) (now (batch .exit)) ⌝ }
 {
     let at = t.at;
-    if work[at] != t.made as u64 + 2 {
+    if work[at] != t.made as u64 + FIRST_RECORD {
         return pass(t, 0);
     }
     let left = operand(&*work, r.kind, r.left);

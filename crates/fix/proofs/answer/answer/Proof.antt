@@ -1,9 +1,9 @@
--- `whole::answer` gives the new head, or the refusal.
+-- `answer::answer` gives the new head, or the refusal.
 use native.Mathlib.Omega.{arith}
 use borrow.Author.Needs.{needs}
 use Rattle.fix.proofs.Finishing.{answers, refuses}
-use Rattle.fix.proofs.whole.answer.Statement.{statement}
-use Rattle.fix.proofs.whole.answer.Tie as tie
+use Rattle.fix.proofs.answer.answer.Statement.{statement}
+use Rattle.fix.proofs.answer.answer.Tie as tie
 
 returns : tie.Need-returns
 returns c = let a = c .before .before .args in refuses (a .t) (a .head) (a .work .now) (c .if1 .taken)

@@ -1,12 +1,12 @@
--- `whole::new_set` is the image of the set.
+-- `answer::new_set` is the image of the set.
 use mathlib.Core.Path.{_∙_, ap, sym}
 use Prim.Native.Nat.{_<_, _≤_}
 use native.Mathlib.Omega.{arith}
 use lib.ListN.{getD, length}
 use Rattle.fix.specs.Sets.{setAfter}
 use borrow.Author.Needs.{needs}
-use Rattle.fix.proofs.whole.new_set.Statement.{statement}
-use Rattle.fix.proofs.whole.new_set.Tie as tie
+use Rattle.fix.proofs.answer.new_set.Statement.{statement}
+use Rattle.fix.proofs.answer.new_set.Tie as tie
 
 -- where the set is a record, its image stands in the work
 image-there : (c : tie.After-set) → let work = c .before .before .before .args .work .now in

@@ -1,10 +1,10 @@
--- `whole::begin` makes the tests in their order.
+-- `start::begin` makes the tests in their order.
 use mathlib.Core.Path.{_∙_, sym}
 use borrow.Author.Tests.{not-false, not-true}
 use Rattle.fix.proofs.Beginning.{begins, no-entries, no-node, not-open, weigh-refused}
 use borrow.Author.Needs.{needs}
-use Rattle.fix.proofs.whole.begin.Statement.{statement}
-use Rattle.fix.proofs.whole.begin.Tie as tie
+use Rattle.fix.proofs.start.begin.Statement.{statement}
+use Rattle.fix.proofs.start.begin.Tie as tie
 
 enum-known-w : tie.Need-enum-known-w
 enum-known-w c = search needs

@@ -1,9 +1,9 @@
--- `whole::finish` gives the answer and clears the work.
+-- `answer::finish` gives the answer and clears the work.
 use mathlib.Core.Path.{_∙_}
 use borrow.Author.Needs.{needs}
 use Rattle.sound.proofs.Overwriting.{cleared-all}
-use Rattle.fix.proofs.whole.finish.Statement.{statement}
-use Rattle.fix.proofs.whole.finish.Tie as tie
+use Rattle.fix.proofs.answer.finish.Statement.{statement}
+use Rattle.fix.proofs.answer.finish.Tie as tie
 
 answer-requires : tie.Need-answer-requires
 answer-requires c κs = search needs

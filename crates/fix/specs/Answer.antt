@@ -1,32 +1,17 @@
--- A fix from beginning to end: what `begin` and `finish` answer, and what is left in the work.
+-- The end of a fix: what `finish` asks for, its answer, and the cleared work.
 use mathlib.Core.Bool.{false, cond}
 use mathlib.Core.List.{List}
 use mathlib.Core.Path.{_≡_}
 use Prim.Native.Nat.{ℕ, _-_, _≤_, _<_}
-use lib.Dec.{leb, ltb}
 use lib.ListN.{length, getD, replicate}
 use Rattle.paper.specs.declared.Fixed.{Fixed}
 use Rattle.paper.specs.declared.Fixed.the-variants as FixedIs
 use Rattle.paper.specs.declared.Head.{Head}
-use Rattle.paper.specs.declared.Refusal.the-variants.{Place, Node, ShortTable}
 use Rattle.paper.specs.Questions.{without}
-use Rattle.paper.specs.Refusals.{isOpen, over}
-use Rattle.sound.specs.declared.Weighed.{Weighed}
-use Rattle.sound.specs.declared.Weighed.the-variants as WeighedIs
+use Rattle.paper.specs.Refusals.{over}
 use Rattle.fix.specs.Sets.{Set, at, setAfter}
-use Rattle.fix.specs.States.{State, started, refusedBy}
+use Rattle.fix.specs.States.{State}
 
--- refused by `weigh`, or with 7, 8 or 6, or before the first record
-abbrev pub begun : Weighed → Head → ℕ → ℕ → ℕ → State
-begun WeighedIs.Sound h place node entries =
-    cond (isOpen h place)
-    (cond (ltb node (h .nodes))
-    (cond (leb (h .used) entries) (started (h .used) place node) (refusedBy (h .used) ShortTable))
-    (refusedBy (h .used) Node))
-    (refusedBy (h .used) Place)
-begun (WeighedIs.Refused why) h place node entries = refusedBy 0 why
-
--- ---- the end
 -- if the set is a record, its image stands in the work
 abbrev pub ImageIn : List ℕ → Set → Type 0
 ImageIn work set = (i : ℕ) → set ≡ at i → (i < length work) × (getD work i 0 ≤ 60001)

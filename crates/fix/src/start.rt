@@ -1,17 +1,12 @@
-// The beginning of a fix, of its second pass, and its end.
+// The beginning of a fix and of its second pass: the refusals that can be told before the images, and the state before the first record.
 ghost use mathlib.Core.Path.{_≡_};
-ghost use Rattle.fix.specs.Sets.{setAfter};
 ghost use Rattle.fix.specs.States.{started, refusedBy, restarted};
-ghost use Rattle.fix.specs.Whole.{begun, ImageIn, MayFinish, answerAfter, Finishes};
+ghost use Rattle.fix.specs.Start.{begun};
 use crate::state::State;
-use paper::Fixed;
 use paper::Head;
 use paper::Refusal;
-use paper::Set;
 use places::is_open;
-use places::without_place;
 use sound::Weighed;
-use table::set_of;
 
 // Before the first record. Only a union of unit and unit can still refuse.
 fn start(used: usize, place: u16, node: u16) -> State
@@ -80,47 +75,4 @@ pub(crate) fn again(t: State) -> State
         return t;
     }
     start(t.used, t.place, t.node)
-}
-
-// What the set of the head becomes.
-fn new_set(set: Set, work: &[u64]) -> Set
-    requires { ⌜ ImageIn (now work) set ⌝ }
-    ensures { λ r. ⌜ r ≡ setAfter (now (work .entry)) set ⌝ }
-{
-    match set {
-        Set::Empty => Set::Empty,
-        Set::Unit => Set::Unit,
-        Set::Record(i) => set_of(work[i as usize] as u16),
-    }
-}
-
-// The new set, or the refusal.
-fn answer(t: State, head: Head, work: &[u64]) -> Fixed
-    requires { ⌜ MayFinish t head (now work) ⌝ }
-    ensures { λ r. ⌜ r ≡ answerAfter t head (now (work .entry)) ⌝ }
-{
-    if t.refused {
-        let why = t.refusal;
-        return Fixed::Refused(why);
-    }
-    let old = head.set;
-    let set = new_set(old, work);
-    let places = without_place(head.open_places, (t.place - 1) as usize);
-    Fixed::Set(Head {
-        nodes: head.nodes,
-        arity: head.arity,
-        open_places: places,
-        used: t.made as u16,
-        set: set,
-    })
-}
-
-// The answer; and the work is cleared.
-pub(crate) fn finish(t: State, head: Head, work: &mut [u64]) -> Fixed
-    requires { ⌜ MayFinish t head (now work) ⌝ }
-    ensures { λ r. ⌜ Finishes t head (now (work .entry)) r (now (work .exit)) ⌝ }
-{
-    let fixed = answer(t, head, &*work);
-    sound::clear(&mut *work, t.used);
-    fixed
 }

@@ -1,8 +1,8 @@
--- `whole::again` begins once more, unless it is refused.
+-- `start::again` begins once more, unless it is refused.
 use mathlib.Core.Path.{_∙_}
 use borrow.Author.Needs.{needs}
-use Rattle.fix.proofs.whole.again.Statement.{statement}
-use Rattle.fix.proofs.whole.again.Tie as tie
+use Rattle.fix.proofs.start.again.Statement.{statement}
+use Rattle.fix.proofs.start.again.Tie as tie
 
 returns : tie.Need-returns
 returns c = search needs
