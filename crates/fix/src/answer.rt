@@ -9,7 +9,7 @@ use paper::Set;
 use places::without_place;
 use table::set_of;
 
-// What the set of the head becomes.
+// What the set of the head becomes: the image of its root. Empty and unit stay what they are.
 fn new_set(set: Set, work: &[u64]) -> Set
     requires { ⌜ ImageIn (now work) set ⌝ }
     ensures { λ r. ⌜ r ≡ setAfter (now (work .entry)) set ⌝ }
@@ -17,11 +17,13 @@ fn new_set(set: Set, work: &[u64]) -> Set
     match set {
         Set::Empty => Set::Empty,
         Set::Unit => Set::Unit,
+        // The number of a set is at most 60,001, so it fits.
         Set::Record(i) => set_of(work[i as usize] as u16),
     }
 }
 
-// The new set, or the refusal.
+// The new set, or the refusal. Nodes and arity stay; the place leaves the open places, and the others
+// keep their numbers.
 fn answer(t: State, head: Head, work: &[u64]) -> Fixed
     requires { ⌜ MayFinish t head (now work) ⌝ }
     ensures { λ r. ⌜ r ≡ answerAfter t head (now (work .entry)) ⌝ }
@@ -42,7 +44,7 @@ fn answer(t: State, head: Head, work: &[u64]) -> Fixed
     })
 }
 
-// The answer; and the work is cleared.
+// The answer; and the work is cleared, after the root's image has been read from it.
 pub(crate) fn finish(t: State, head: Head, work: &mut [u64]) -> Fixed
     requires { ⌜ MayFinish t head (now work) ⌝ }
     ensures { λ r. ⌜ Finishes t head (now (work .entry)) r (now (work .exit)) ⌝ }

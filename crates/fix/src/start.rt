@@ -1,4 +1,5 @@
-// The beginning of a fix and of its second pass: the refusals that can be told before the images, and the state before the first record.
+// The beginning of a fix and of its second pass: the state before the first record, and the refusals
+// that can be told before the images.
 ghost use mathlib.Core.Path.{_≡_};
 ghost use Rattle.fix.specs.States.{started, refusedBy, restarted};
 ghost use Rattle.fix.specs.Start.{begun};
@@ -8,7 +9,8 @@ use paper::Refusal;
 use places::is_open;
 use sound::Weighed;
 
-// Before the first record. Only a union of unit and unit can still refuse.
+// Before the first record. Only a union of unit and unit can still refuse, so that refusal is set down
+// here.
 fn start(used: usize, place: u16, node: u16) -> State
     ensures { λ r. ⌜ r ≡ started used place node ⌝ }
 {
@@ -26,7 +28,8 @@ fn start(used: usize, place: u16, node: u16) -> State
     }
 }
 
-// No pass at all. `used` numbers of the work are still to be cleared.
+// No pass at all: the place and the node are not looked at. `used` numbers of the work are still to be
+// cleared.
 fn refuse(used: usize, why: Refusal) -> State
     ensures { λ r. ⌜ r ≡ refusedBy used why ⌝ }
 {
@@ -44,8 +47,8 @@ fn refuse(used: usize, why: Refusal) -> State
     }
 }
 
-// What can be told before the images: 5 and 11 by what `weigh` said, then 7, 8 and 6. A set that `weigh` refused has left the work as it
-// is to be.
+// What can be told before the images: 5 and 11 by what `weigh` said, then 7, 8 and 6, as the paper
+// orders them. A set that `weigh` refused has left the work as it is to be.
 pub(crate) fn begin(w: Weighed, head: Head, place: u16, node: u16, entries: usize) -> State
     ensures { λ r. ⌜ r ≡ begun w head place node entries ⌝ }
 {
@@ -59,6 +62,7 @@ pub(crate) fn begin(w: Weighed, head: Head, place: u16, node: u16, entries: usiz
             if head.nodes <= node {
                 return refuse(used, Refusal::Node);
             }
+            // The paper wants an entry for each record of the source, however few will be made.
             if entries < used {
                 return refuse(used, Refusal::ShortTable);
             }
@@ -67,7 +71,7 @@ pub(crate) fn begin(w: Weighed, head: Head, place: u16, node: u16, entries: usiz
     }
 }
 
-// The same records once more, unless it is refused.
+// The same records once more, unless it is refused: then the state stays as it is, and has no turn.
 pub(crate) fn again(t: State) -> State
     ensures { λ r. ⌜ r ≡ restarted t ⌝ }
 {

@@ -1,4 +1,5 @@
 // One turn of each pass over the source: the first finds the images, the second makes the new records.
+// Both read from the work what a record's operands have become.
 ghost use mathlib.Core.Path.{_≡_};
 ghost use Prim.Native.Nat.{_≤_, _<_};
 ghost use lib.ListN.{length};
@@ -19,7 +20,8 @@ use sound::kind::UNION;
 // A record in the batch is five numbers: kind, node, left, right, flag.
 pub(crate) const RECORD_NUMBERS: usize = 5;
 
-// What an operand of a record of this kind has become; empty for a single, which has none.
+// What an operand of a record of this kind has become; empty for a single, which has none. Its number
+// is not tested: in a sound set it is lower than the record's, and so the work has it.
 fn operand(work: &[u64], kind: u16, number: u16) -> u64
     requires { ⌜ ((kind ≡ 1 → ⊥) → number < length (now work)) ⌝ }
     ensures { λ r. ⌜ r ≡ operandIn (now (work .entry)) kind number ⌝ }
@@ -30,7 +32,8 @@ fn operand(work: &[u64], kind: u16, number: u16) -> u64
     work[number as usize]
 }
 
-// The image of the next record goes into its number of the work. A union of unit and unit ends the pass.
+// The image of the next record goes into its number of the work. A union of unit and unit ends the
+// pass: that is refusal 12.
 pub(crate) fn image_turn(t: State, r: Record, work: &mut [u64]) -> State
     requires { ⌜ Turning t r (now work) ⌝ }
     ensures { λ s. ⌜ Imaged t r (now (work .entry)) s (now (work .exit)) ⌝ }
@@ -46,7 +49,7 @@ pub(crate) fn image_turn(t: State, r: Record, work: &mut [u64]) -> State
     pass(t, image.count)
 }
 
-// One record as five numbers.
+// One record as five numbers, in the order in which `table` reads them.
 fn put(batch: &mut [u16], new: Record)
     requires { ⌜ 5 ≤ length (now batch) ⌝ }
     ensures { λ r. ⌜ recordAt (now (batch .exit)) 0 ≡ new ⌝ }
@@ -58,8 +61,9 @@ fn put(batch: &mut [u16], new: Record)
     batch[4] = new.flag;
 }
 
-// The new record of the next one, if there is one, goes into the batch. The work has the images of all: where a record makes a new one,
-// its image is the next of the new table.
+// The new record of the next one, if there is one, goes into the batch. The work has the images of all:
+// where a record makes a new one, its image is the next of the new table. Any other image is a set that
+// is there already, and the record is skipped.
 pub(crate) fn record_turn(t: State, r: Record, work: &mut [u64], batch: &mut [u16]) -> State
     requires { ⌜ Turning t r (now work) × (5 ≤ length (now batch)) ⌝ }
     ensures { λ s. ⌜ Recorded t r (now (work .entry)) s (now (work .exit)) (now (batch .exit)) ⌝ }
@@ -68,6 +72,7 @@ pub(crate) fn record_turn(t: State, r: Record, work: &mut [u64], batch: &mut [u1
     if work[at] != t.made as u64 + FIRST_RECORD {
         return pass(t, 0);
     }
+    // Made once more, by the same images as in the first pass: the work has kept them.
     let left = operand(&*work, r.kind, r.left);
     let right = operand(&*work, r.kind, r.right);
     let image = image_of(r, t.place, t.node, left, right, t.made);

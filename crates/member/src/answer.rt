@@ -5,7 +5,8 @@ use paper::Head;
 use paper::Member;
 use sound::clear;
 
-// The answer. The work is cleared where it is as long as asked.
+// The answer. The work is cleared where it is as long as asked; where it is not, the answer is refusal
+// 5, which leaves it as it is.
 pub(crate) fn finish(t: State, head: Head, work: &mut [u64]) -> Member
     ensures { λ r. ⌜ Finishes t head (now (work .entry)) r (now (work .exit)) ⌝ }
 {

@@ -1,5 +1,6 @@
-// The pass: one turn for each record, upwards. Once a record is passed, its cell in the lent work tells whether the record lists the row
-// restricted to its flag: 1 if it does, else 0.
+// The pass: one turn for each record, upwards. Once a record is passed, its cell in the lent work tells
+// whether the record lists the row restricted to its flag: 1 if it does, else 0. First where the pass
+// stands, then what a record lists, then the turn.
 ghost use mathlib.Core.Path.{_≡_};
 ghost use Prim.Native.Nat.{_<_};
 ghost use lib.ListN.{length};
@@ -11,8 +12,9 @@ use sound::kind::SINGLE;
 use sound::kind::UNION;
 use sound::limits::PLACES;
 
-// `at` is the record that comes next, `root` the last one. `row` is the row asked for, blank behind its end. `answer` is the present
-// record's: at the end the root's.
+// `at` is the record that comes next, `root` the last one. `row` is the row asked for, blank behind its
+// end: by value, so that a turn holds no second slice. `answer` is that of the record last passed: at
+// the end the root's.
 pub(crate) struct State {
     pub(crate) at: usize,
     pub(crate) root: usize,
@@ -21,12 +23,14 @@ pub(crate) struct State {
     pub(crate) going: bool,
 }
 
-// Whether the node stands at each place of the flag.
+// Whether the node stands at each place of the flag. Its lowest bit is the place at hand; the flag is
+// halved from place to place.
 fn stands(row: [u16; PLACES], node: u16, flag: u16) -> bool
     ensures { λ r. ⌜ r ≡ stands node flag row ⌝ }
 {
     let mut rest = flag;
     let mut i = 0;
+    // Ends behind the last place, or where another node stands.
     while i < PLACES {
         if rest % 2 == 1 {
             if node != row[i] {
@@ -39,7 +43,9 @@ fn stands(row: [u16; PLACES], node: u16, flag: u16) -> bool
     true
 }
 
-// Whether the record lists the row restricted to its flag, by its operands' cells.
+// Whether the record lists the row restricted to its flag, by its operands' cells. A union's operands
+// have its flag, so it is the same row that they are asked for. A product's share no bit and together
+// make its flag, so each is asked for its part of the row.
 fn lists(row: [u16; PLACES], r: Record, work: &[u64]) -> bool
     requires { ⌜ (r .left < length (now work)) × (r .right < length (now work)) ⌝ }
     ensures { λ c. ⌜ c ≡ lists row (now (work .entry)) r ⌝ }
@@ -49,6 +55,7 @@ fn lists(row: [u16; PLACES], r: Record, work: &[u64]) -> bool
     }
     let left = r.left as usize;
     let right = r.right as usize;
+    // Both are looked up in any case: no branch depends on the first.
     let in_left = work[left] == 1;
     let in_right = work[right] == 1;
     if r.kind == UNION {
@@ -57,6 +64,7 @@ fn lists(row: [u16; PLACES], r: Record, work: &[u64]) -> bool
     in_left & in_right
 }
 
+// What a cell says, as the answer that it is at the root.
 fn answer_of(listed: bool) -> Member
     ensures { λ r. ⌜ r ≡ answerOf listed ⌝ }
 {
@@ -67,7 +75,7 @@ fn answer_of(listed: bool) -> Member
     }
 }
 
-// One turn: the cell of record r.
+// One turn: the cell of record r. The pass goes on as long as the root is still to come.
 pub(crate) fn next(t: State, r: Record, work: &mut [u64]) -> State
     requires { ⌜ Reads t r (now work) ⌝ }
     ensures { λ s. ⌜ Turns t r (now (work .entry)) s (now (work .exit)) ⌝ }

@@ -1,4 +1,5 @@
-// The beginning of the question: whether the row fits the head, refusals 13 and 8, and the pass before its first turn.
+// The beginning of the question: whether the row fits the head, by which it is refused 13 or 8, and
+// the pass before its first turn.
 ghost use mathlib.Core.Path.{_≡_};
 ghost use Prim.Native.Nat.{_≤_};
 ghost use lib.ListN.{length};
@@ -26,12 +27,14 @@ fn entry_fits(open_place: bool, nodes: u16, entry: u16) -> bool
     }
 }
 
-// Whether each entry fits its place.
+// Whether each entry fits its place. `rest` has the places from the present one on; its lowest bit
+// tells whether that is open.
 fn entries_fit(head: Head, row: &[u16]) -> bool
     ensures { λ r. ⌜ r ≡ entriesFit head 0 (now (row .entry)) ⌝ }
 {
     let mut rest = head.open_places;
     let mut i = 0;
+    // Ends behind the last entry, or at one that does not fit.
     while i < row.len() {
         if !entry_fits(rest % 2 == 1, head.nodes, row[i]) {
             return false;
@@ -42,13 +45,14 @@ fn entries_fit(head: Head, row: &[u16]) -> bool
     true
 }
 
-// The row, blank behind its end.
+// The row, blank behind its end: no record of a sound set has a place there.
 fn padded(row: &[u16]) -> [u16; PLACES]
     requires { ⌜ length (now row) ≤ 4 ⌝ }
     ensures { λ r. ⌜ r ≡ padded (now (row .entry)) ⌝ }
 {
     let mut four = [Place::BLANK; PLACES];
     let mut i = 0;
+    // Ends behind the last entry. There are at most four, since the row is as long as the arity.
     while i < row.len() {
         four[i] = row[i];
         i += 1;
@@ -56,7 +60,7 @@ fn padded(row: &[u16]) -> [u16; PLACES]
     four
 }
 
-// No record has to be looked at.
+// No record has to be looked at: the answer is known, or it is a refusal.
 fn stopped(answer: Member) -> State
     ensures { λ s. ⌜ s ≡ stopped answer ⌝ }
 {
@@ -69,7 +73,8 @@ fn stopped(answer: Member) -> State
     }
 }
 
-// The first record, where there is one, for a row that fits. Empty lists no row, unit the one that is all blank.
+// The first record, where there is one, for a row that fits. Empty lists no row. Unit stands only with
+// no open place, so a row that fits is all blank there, and that is the one row of unit.
 fn first(set: Set, row: &[u16]) -> State
     requires { ⌜ length (now row) ≤ 4 ⌝ }
     ensures { λ s. ⌜ s ≡ firstOf set (now (row .entry)) ⌝ }
@@ -81,13 +86,15 @@ fn first(set: Set, row: &[u16]) -> State
             at: 0,
             root: root as usize,
             row: padded(row),
+            // Never told: the root's turn gives another.
             answer: Member::NotListed,
             going: true,
         },
     }
 }
 
-// A sound set and a row: 13, then 8.
+// A sound set and a row: 13, then 8, as the paper orders them. Entries are looked at only where there
+// is one for each place.
 fn start(head: Head, row: &[u16]) -> State
     requires { ⌜ head .arity ≤ 4 ⌝ }
     ensures { λ s. ⌜ s ≡ startOf head (now (row .entry)) ⌝ }
@@ -102,7 +109,8 @@ fn start(head: Head, row: &[u16]) -> State
     first(set, row)
 }
 
-// The pass before its first turn; or stopped, with a refusal or with the answer.
+// The pass before its first turn; or stopped, with a refusal or with the answer. Only a sound set has
+// few places for certain, which is what the `requires` says.
 pub(crate) fn begin(w: Weighed, head: Head, row: &[u16]) -> State
     requires { ⌜ FewPlaces w head ⌝ }
     ensures { λ s. ⌜ s ≡ begun w head (now (row .entry)) ⌝ }

@@ -1,4 +1,5 @@
-// One turn of a descent: to the operand that the row comes from, or, at a single, on to the next open place.
+// One turn of a descent: to the operand that the row comes from, or, at a single, on to the next open
+// place. First the ways on, then the way at each kind, then the turn.
 ghost use mathlib.Core.Path.{_≡_};
 ghost use Prim.Native.Nat.{_<_};
 ghost use Rattle.row.specs.Descent.{Readable, Steps, rowsAt, lower, beginLower, placed, unionSide, productSide};
@@ -12,7 +13,8 @@ use sound::limits::PLACES;
 use sound::weight::flag_in;
 use sound::weight::rows_in;
 
-// The descent goes on at row `number` of record `at`.
+// The descent goes on at row `number` of record `at`. The start stays: below a product the record has
+// only some of the row's places, and the others are sought from above it.
 fn go_down(t: State, at: usize, number: u64) -> State
     ensures { λ s. ⌜ s ≡ lower t at number ⌝ }
 {
@@ -22,7 +24,9 @@ fn go_down(t: State, at: usize, number: u64) -> State
     s
 }
 
-// The same below a union, whose row is that row as a whole. Where the descent stands at the start, the next one begins there too.
+// The same below a union, whose row is that row as a whole. Where the descent stands at the start, the
+// next one begins there too: so the unions that all places share, in a wide set most of the way, are
+// walked once and not once a place.
 fn begin_lower(t: State, at: usize, number: u64) -> State
     ensures { λ s. ⌜ s ≡ beginLower t at number ⌝ }
 {
@@ -34,7 +38,8 @@ fn begin_lower(t: State, at: usize, number: u64) -> State
     s
 }
 
-// The node stands at the place, and the descent for the next open place begins at the start.
+// The node stands at the place, and the descent for the next open place begins at the start. Where no
+// place is left, the search is over.
 fn place_node(t: State, node: u16) -> State
     requires { ⌜ t .place < 4 ⌝ }
     ensures { λ s. ⌜ s ≡ placed t node ⌝ }
@@ -49,7 +54,8 @@ fn place_node(t: State, node: u16) -> State
     s
 }
 
-// A union lists its left rows, then its right ones.
+// A union lists its left rows, then its right ones: a number that is not one of the left is counted
+// on from them.
 fn union_side(t: State, r: Record, work: &[u64]) -> State
     requires { ⌜ Readable t r (now work) ⌝ }
     ensures { λ s. ⌜ s ≡ unionSide t r (now (work .entry)) ⌝ }
@@ -62,7 +68,9 @@ fn union_side(t: State, r: Record, work: &[u64]) -> State
     begin_lower(t, r.right as usize, t.number - rows)
 }
 
-// A product lists, for each left row, every right row. The place is one of the left factor or one of the right.
+// A product lists, for each left row, every right row: so the number is made of a left one and a right
+// one, as tens and ones are. The place is one of the left factor or one of the right, whose flags
+// share no bit. The right factor of a sound set lists some row, so nothing is divided by 0.
 fn product_side(t: State, r: Record, work: &[u64]) -> State
     requires { ⌜ Readable t r (now work) ⌝ }
     requires { ⌜ 0 < rowsAt (now work) (r .right) ⌝ }
@@ -78,6 +86,8 @@ fn product_side(t: State, r: Record, work: &[u64]) -> State
     go_down(t, right, t.number % rows)
 }
 
+// One turn. A used record of a sound set is a single, a union or a product, so there is no other kind
+// to refuse. The work is lent with `mut` as in the other loops over a table, but only read.
 pub(crate) fn next(t: State, r: Record, work: &mut [u64]) -> State
     requires { ⌜ Readable t r (now work) ⌝ }
     ensures { λ s. ⌜ Steps t r (now (work .entry)) s (now (work .exit)) ⌝ }

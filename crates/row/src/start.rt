@@ -1,4 +1,5 @@
-// The beginning of the search for a row: the set's root, the first descent from it, and the refusals 9 and 10.
+// The beginning of the search for a row: the set's root, the first descent from it, the refusals 9
+// and 10, and what comes of a set that `weigh` has refused.
 ghost use mathlib.Core.Path.{_≡_};
 ghost use Rattle.row.specs.Start.{rootIn, atRoot, refusedWith, started, Begins};
 use crate::flag::open_from;
@@ -14,7 +15,8 @@ use sound::Weighed;
 use sound::limits::PLACES;
 use sound::set_rows;
 
-// The record where the first descent begins. Empty and unit have none, and no descent.
+// The record where the first descent begins. Empty and unit have none, and no descent: empty has no
+// row to find, and unit no open place. Their 0 is not read.
 fn root_in(set: Set) -> usize
     ensures { λ i. ⌜ i ≡ rootIn set ⌝ }
 {
@@ -25,7 +27,8 @@ fn root_in(set: Set) -> usize
     }
 }
 
-// The first descent, for this place, begins at the root. The index `PLACES` is no place, and no descent.
+// The first descent, for this place, begins at the root. The index `PLACES` is no place, and no
+// descent. Every entry is blank at first, and stays so at a place that is not open.
 fn at_root(asked: Asked, place: usize) -> State
     ensures { λ s. ⌜ s ≡ atRoot asked place ⌝ }
 {
@@ -41,7 +44,8 @@ fn at_root(asked: Asked, place: usize) -> State
     }
 }
 
-// No turn is taken, and nothing written; so many numbers of the work are cleared.
+// No turn is taken, and nothing written, since the arity is 0; so many numbers of the work are cleared
+// at the end.
 fn refused(why: Refusal, used: usize) -> State
     ensures { λ s. ⌜ s ≡ refusedWith why used ⌝ }
 {
@@ -56,13 +60,14 @@ fn refused(why: Refusal, used: usize) -> State
     at_root(asked, PLACES)
 }
 
-// Of a sound set: the first descent, for the first open place.
+// Of a sound set: the first descent, for the first open place; 9 before 10, as the paper orders them.
 fn start(head: Head, work: &[u64], number: u64, room: usize) -> State
     ensures { λ s. ⌜ s ≡ started head (now (work .entry)) number room ⌝ }
 {
     let set = head.set;
     let used = head.used as usize;
     let arity = head.arity as usize;
+    // Rows are numbered from 0. Empty has none: every number is refused.
     if set_rows(set, work) <= number {
         return refused(Refusal::RowNumber, used);
     }
@@ -80,7 +85,8 @@ fn start(head: Head, work: &[u64], number: u64, room: usize) -> State
     at_root(asked, open_from(head.open_places, 0))
 }
 
-// Where the set has been refused, the work stays as it is.
+// Where the set has been refused, the work stays as it is: `weigh` has left it as a refusal does, so
+// nothing of it is to be cleared.
 pub(crate) fn begin(w: Weighed, head: Head, work: &mut [u64], number: u64, room: usize) -> State
     ensures { λ s. ⌜ Begins w head (now (work .entry)) number room s (now (work .exit)) ⌝ }
 {

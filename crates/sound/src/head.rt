@@ -1,5 +1,5 @@
-// What the head asks for: its numbers before the pass over the records, and its set after it. The pass begins by the first test, and is
-// judged by the second.
+// What the head asks for: its numbers before the pass over the records, and its set after it. The
+// pass begins by the first test, and is judged by the second.
 ghost use mathlib.Core.Path.{_≡_};
 ghost use Prim.Native.Nat.{_≤_};
 ghost use lib.ListN.{length};
@@ -32,13 +32,15 @@ fn head_fits(head: Head, entries: usize) -> bool
     if head.arity > MOST_PLACES {
         return false;
     }
+    // Only now is the arity small enough to shift by.
     if head.open_places >= 1u16 << head.arity {
         return false;
     }
     head.used <= MOST_RECORDS && head.used as usize <= entries
 }
 
-// The pass stands at the first record, if the head fits and the work is long enough.
+// The pass stands at the first record, if the head fits and the work is long enough. Else no record
+// is looked at, and `judge` finds out again which of the two it was.
 pub(crate) fn begin(head: Head, entries: usize, cells: usize) -> State
     ensures { λ s. ⌜ s ≡ begun head entries cells ⌝ }
 {
@@ -57,11 +59,13 @@ pub(crate) fn begin(head: Head, entries: usize, cells: usize) -> State
         return s;
     }
     s.sound = true;
+    // A set that uses no record has nothing to go through.
     s.going = 0 < s.used;
     s
 }
 
-// Whether the set fits its records, of which the work has the weights.
+// Whether the set fits its records, of which the work has the weights. The root's flag stands in its
+// weight, so the table is not needed for it.
 fn set_fits(head: Head, work: &[u64]) -> bool
     requires { ⌜ head .used ≤ length (now work) ⌝ }
     ensures { λ c. ⌜ c ≡ setFits head (now (work .entry)) (head .set) ⌝ }
@@ -74,11 +78,12 @@ fn set_fits(head: Head, work: &[u64]) -> bool
     }
 }
 
-// The answer, after the pass. Where the set is not sound the work is cleared.
+// The answer, after the pass: refusal 5 before 11, as the paper orders them.
 pub(crate) fn judge(t: State, head: Head, work: &mut [u64]) -> Weighed
     ensures { λ r. ⌜ Judges t head (now (work .entry)) r (now (work .exit)) ⌝ }
 {
     let used = head.used as usize;
+    // 5 leaves the work as it is; no weight has been written then.
     if work.len() < used {
         return Weighed::Refused(Refusal::ShortWork);
     }
@@ -87,6 +92,7 @@ pub(crate) fn judge(t: State, head: Head, work: &mut [u64]) -> Weighed
             return Weighed::Sound;
         }
     }
+    // The weights of the records before the one at fault go again.
     clear(&mut *work, used);
     Weighed::Refused(Refusal::NotSound)
 }

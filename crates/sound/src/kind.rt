@@ -1,4 +1,5 @@
-// The kinds of records, as the table has them.
+// The kinds of records, as the paper numbers them. An entry of the table may have any other number
+// for its kind: then it is not sound.
 
 // The node at each place of the flag.
 pub const SINGLE: u16 = 1;
