@@ -2,7 +2,7 @@
 # Compiles the example in C, in Fortran and in Rust and runs each on the streams; what it prints is held to what must come out, which
 # was worked out by hand and by trying all markings (examples/streams/*.md), and its exit status to what examples/README.md says. The
 # last line is 'N passed, M failed'.
-# TARN_ARCHIVE=FILE takes another archive than that of crate `c`.
+# TARN_ARCHIVE=FILE takes another archive than that of crate `tarnsatchel`.
 set -u
 cd "$(dirname "$0")/.." || exit 2
 . tests/host.sh
@@ -39,8 +39,10 @@ if [ "${#runner[@]}" -gt 0 ]; then
 else
     need_rust
     need_cargo
-    TARN_ARCHIVE=$(readlink -f "$archive") cargo build -q --release --locked --offline --manifest-path examples/rust/Cargo.toml \
-        --target-dir "$out/cargo" || give_up "the Rust example does not compile or link"
+    # cargo finds the library's archive itself; another one by its whole path, since bindings/rust/build.rs runs in its own folder
+    [ -z "${TARN_ARCHIVE:-}" ] || export TARN_ARCHIVE="$(readlink -f "$TARN_ARCHIVE")"
+    cargo build -q --release --locked --offline --manifest-path examples/rust/Cargo.toml --target-dir "$out/cargo" ||
+        give_up "the Rust example does not compile or link"
     show Rust "$out/cargo/release/show"
 fi
 end_checks

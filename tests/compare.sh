@@ -4,7 +4,7 @@
 #   bash tests/compare.sh [WORDS ..]         WORDS go to the comparison, as --seed 5; --stream 17, --listing 17 or --group 17 shows
 #                                            one case
 #   bash tests/compare.sh alone [WORDS ..]   the two programs with each other: the test of the tests, with no driver and no library
-# TARN_ARCHIVE=FILE takes another archive than that of crate `c`, and TARN_PROGRAM=FILE another program than that of crate `list`.
+# TARN_ARCHIVE=FILE takes another archive than that of crate `tarnsatchel`, and TARN_PROGRAM=FILE another program than that of crate `list`.
 set -u
 cd "$(dirname "$0")/.." || exit 2
 . tests/host.sh

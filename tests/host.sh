@@ -1,9 +1,11 @@
 # For the scripts beside it and in examples/, from the repository's root: installs what a host lacks, builds Rust programs for this
 # host, and C and Fortran programs on the library's archive. The kit compiles for x86-64. On an Arm host a C or Fortran program is
-# built for x86-64 too, linked statically, and run under the kit's emulator, as the listing program is.
+# built for x86-64 too and run under the kit's emulator, as the listing program is, with the libraries of Debian's cross compilers.
 
 out=target/tests
 mkdir -p "$out" || exit 2
+# What a `make check` around this was told is not for the makes in here.
+unset MAKEFLAGS MAKELEVEL DESTDIR
 
 # Ends with a failed check, since the gate counts by the last line.
 give_up() {
@@ -45,14 +47,15 @@ end_checks() {
 
 case $(uname -m) in
 aarch64 | arm64)
-    compiler=x86_64-linux-gnu-gcc fortran=x86_64-linux-gnu-gfortran compiler_words=(-static)
+    compiler=x86_64-linux-gnu-gcc fortran=x86_64-linux-gnu-gfortran
     compiler_packages=(gcc-x86-64-linux-gnu libc6-dev-amd64-cross) fortran_packages=(gfortran-x86-64-linux-gnu)
     tools=$(cd "$(dirname "$(readlink -f "$(command -v rt)")")/.." && pwd -P)/on/aarch64/toolchain
-    runner=("$tools/bin/qemu-x86_64")
-    program_runner=("${runner[@]}" "$tools/lib/ld-linux-x86-64.so.2" --library-path "$tools/lib")
+    # nothing is linked statically: the libm.a that these compilers bring in Debian 12 names files of an x86-64 host
+    runner=("$tools/bin/qemu-x86_64" -L /usr/x86_64-linux-gnu)
+    program_runner=("$tools/bin/qemu-x86_64" "$tools/lib/ld-linux-x86-64.so.2" --library-path "$tools/lib")
     ;;
 *)
-    compiler=gcc fortran=gfortran compiler_words=()
+    compiler=gcc fortran=gfortran
     compiler_packages=(gcc libc6-dev) fortran_packages=(gfortran libc6-dev)
     runner=() program_runner=()
     ;;
@@ -75,6 +78,8 @@ need_rust() { need cc gcc libc6-dev && need rustc rustc; }
 # on an Arm host the Rust example is left out, and valgrind, which reads the C library's symbols, runs no x86-64 program
 need_cargo() { [ "${#runner[@]}" -gt 0 ] || need cargo cargo; }
 need_valgrind() { [ "${#runner[@]}" -gt 0 ] || need valgrind valgrind libc6-dbg; }
+need_make() { need make make; }
+need_pkg_config() { need pkg-config pkg-config; }
 
 # rust_library NAME [FILE] and rust_program NAME FILE [WORDS ..]: a library is made from tests/NAME/lib.rs, or from FILE
 rust_library() {
@@ -88,11 +93,15 @@ rust_program() {
     rustc -O --edition 2021 --crate-name "$name" "$file" -o "$out/$name" "$@" || give_up "$name does not compile"
 }
 
-# Sets `archive`: TARN_ARCHIVE if that is set, else that of crate `c`, which is proved first if it has changed.
+# Sets `archive`: TARN_ARCHIVE if that is set, else that of crate `tarnsatchel`, proved first if anything under crates/ is newer. make
+# is asked, since `rt staticlib` proves the crate each time.
 need_archive() {
-    archive=${TARN_ARCHIVE:-target/staticlib/libc.a}
-    [ -n "${TARN_ARCHIVE:-}" ] || rt staticlib c >"$out/staticlib.log" 2>&1 ||
-        give_up "rt staticlib c: $(tail -n 1 "$out/staticlib.log") (see $out/staticlib.log)"
+    archive=${TARN_ARCHIVE:-target/staticlib/libtarnsatchel.a}
+    if [ -z "${TARN_ARCHIVE:-}" ]; then
+        need_make
+        make "$archive" >"$out/staticlib.log" 2>&1 ||
+            give_up "make $archive: $(grep -v '^make' "$out/staticlib.log" | tail -n 1) (see $out/staticlib.log)"
+    fi
     [ -f "$archive" ] || give_up "no archive $archive"
 }
 
@@ -105,11 +114,11 @@ need_program() {
     program=("${program_runner[@]}" "$file")
 }
 
-# c_program NAME FILE [WORDS ..]: linked with the archive by its path, since its name may be that of the system's library
+# c_program NAME FILE [WORDS ..]: the archive by its path, since another one may have any name. (tests/install.sh links with -l.)
 c_program() {
     local name=$1 file=$2
     shift 2
-    "$compiler" -O2 -std=c11 -Wall -Wextra "${compiler_words[@]}" -Iinclude "$@" "$file" "$archive" -o "$out/$name" ||
+    "$compiler" -O2 -std=c11 -Wall -Wextra -Iinclude "$@" "$file" "$archive" -o "$out/$name" ||
         give_up "$name does not compile or link"
 }
 
@@ -117,6 +126,6 @@ c_program() {
 fortran_program() {
     local name=$1
     shift
-    "$fortran" -O2 -std=f2018 -Wall -Wextra "${compiler_words[@]}" -J"$out" "$@" "$archive" -o "$out/$name" ||
+    "$fortran" -O2 -std=f2018 -Wall -Wextra -J"$out" "$@" "$archive" -o "$out/$name" ||
         give_up "$name does not compile or link"
 }

@@ -8,3 +8,5 @@ need_cargo
 need_compiler
 need_fortran
 need_valgrind
+need_make
+need_pkg_config

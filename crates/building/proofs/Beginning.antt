@@ -14,15 +14,16 @@ use Rattle.paper.specs.Stream.{StreamRecord, queryRecords, recordsOf, treeRecor
 use Rattle.paper.specs.Tree.{mostUnjoined}
 use Rattle.laws.proofs.ReadTree.{tree-read}
 use Rattle.laws.proofs.Replies.{Passes, answered, refused-inj, refused-not-answer, unless-append}
-use Rattle.stream.specs.declared.QueryFacts.{QueryFacts}
-use Rattle.stream.specs.declared.TreeFacts.{TreeFacts}
+use Rattle.stream.specs.declared.head.QueryFacts.{QueryFacts}
+use Rattle.stream.specs.declared.tree.TreeFacts.{TreeFacts}
 use Rattle.stream.specs.Reading.{queryFacts, queryReply, treeFacts, treeReply}
 use Rattle.stream.proofs.AfterTree.{facts-after-tree, reply-after-tree}
 use Rattle.stream.proofs.EachRecord.{refused-append}
+use Rattle.building.specs.Bounds.{mostNodes, mostPlaces, mostRecords, mostStates}
 use Rattle.building.specs.Frames.{width}
 use Rattle.building.specs.Coming.{Come, Coming}
 use Rattle.building.specs.Standing.{AtNode, InWork, State}
-use Rattle.building.specs.Whole.{Started}
+use Rattle.building.specs.Start.{Started}
 use Rattle.building.proofs.Frames.{frames-at-most, work-frames}
 use Rattle.building.proofs.Present.{most-nodes}
 use Rattle.building.proofs.ReadInput.{few-states, query-part-passes, small-arity, tree-passes}
@@ -138,7 +139,7 @@ module _ (input : List ℕ) (tree : TreeFacts) (query : QueryFacts) (f : ReadFac
   passes = tree-passes input (f .tree-reply)
 
   -- in numbers that the code can count with
-  pub small : (tree .most ≤ 4095) × (query .arity ≤ 4) × (query .states ≤ 16)
+  pub small : (tree .most ≤ mostNodes) × (query .arity ≤ mostPlaces) × (query .states ≤ mostStates)
   small = (
     omega (arith, f .most, most-nodes (treeRecords (recordsOf input)), tree-read (treeRecords (recordsOf input)) passes .2),
     omega (arith, f .arity, small-arity input (f .query-reply) .1),
@@ -184,7 +185,7 @@ module _ (input : List ℕ) (tree : TreeFacts) (query : QueryFacts) (f : ReadFac
       } in
       (n, refl, refl)
 
-  module _ (t : State) (work : List ℕ) (entries : ℕ) (limit : t .limit ≡ min entries 60000) where
+  module _ (t : State) (work : List ℕ) (entries : ℕ) (limit : t .limit ≡ min entries mostRecords) where
     -- a state with the numbers that were read comes to it
     pub comes-first : t .going ≡ true → t .over ≡ false → t .from ≡ 0 → t .count ≡ 0 → t .nodes ≡ tree .nodes → t .rules ≡ query .rules
         → t .arity ≡ query .arity → t .states ≡ query .states → t .asked ≡ workFor input → t .asked ≤ length work → Coming input t 0 0 0 work []

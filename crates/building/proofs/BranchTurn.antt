@@ -1,4 +1,4 @@
--- One rule of a branch: where its rows stand, that there is room for it, and where the building then stands.
+-- One rule of a branch: where its shelves stand, that there is room for it, and where the building then stands.
 use mathlib.Core.List.{List, _++_}
 use mathlib.Core.Logic.{inr, ⊎-elim}
 use mathlib.Core.Path.{_∙_, _≡_, ap, refl, subst, subst₃, sym}
@@ -12,19 +12,21 @@ use Rattle.paper.specs.Refusals.{queryIn}
 use Rattle.paper.specs.Stream.{number, recordsOf}
 use Rattle.stream.specs.Positions.{NextRule, after, recordAt}
 use Rattle.building.specs.Batch.{Record, Set, recordsIn}
+use Rattle.building.specs.Bounds.{batchNumbers}
 use Rattle.building.specs.Branches.{BranchReady, branchOf}
 use Rattle.building.specs.Frames.{FrameIs, width}
+use Rattle.building.specs.Kinds.{branchRuleKind, leafKind, ruleAbove}
 use Rattle.building.specs.Rules.{Branch, Branches, Room, Stands}
 use Rattle.building.specs.Standing.{AtRule, Standing, State, noSlots}
 use Rattle.building.proofs.Frames.{flags-at-most, frame-down}
 use Rattle.building.proofs.Limits.{more-records}
 use Rattle.building.proofs.NodeRules.{BranchRuleAt, branch-first, branch-rule-at, fewer-left, on-to-next}
-use Rattle.building.proofs.OwnRow.{Onward, below-top, in-frame, low-row, own-row, row-rest, row-standing}
+use Rattle.building.proofs.OwnShelf.{Onward, below-top, in-frame, low-shelf, own-shelf, shelf-rest, shelf-standing}
 use Rattle.building.proofs.Present.{NodeReady, kind-here, label-here, node-ready, tree-kind-here, two-frames}
 
 module _ (input : List ℕ) (t : State) (work : List ℕ) (made : List Record) (s : Standing input t work made) (h : t .rule < length input)
-    (branch : getD input (t .at) 0 ≡ 1 → ⊥) where
-  no-leaf : s .node .here .kind ≡ 1 → ⊥
+    (branch : getD input (t .at) 0 ≡ leafKind → ⊥) where
+  no-leaf : s .node .here .kind ≡ leafKind → ⊥
   no-leaf e = branch (kind-here input t (s .constants) (s .node) ∙ e)
 
   branch-kind : s .node .here .kind ≡ 2
@@ -54,7 +56,7 @@ module _ (input : List ℕ) (t : State) (work : List ℕ) (made : List Record) (
   rights-frame : FrameIs (t .arity) (t .states) work ((t .top - 1) * width (t .arity) (t .states)) (getD (s .node .stack) 0 noSlots)
   rights-frame = child-frame 0 (t .top - 1) (omega (arith, two-below, s .node .high)) (omega (arith, s .node .high))
 
-  room-here : (batch : List ℕ) → 3240 ≤ length batch → t .from ≤ t .limit → Room (branchOf input t (t .rule)) (t .count) batch work
+  room-here : (batch : List ℕ) → batchNumbers ≤ length batch → t .from ≤ t .limit → Room (branchOf input t (t .rule)) (t .count) batch work
   room-here batch enough few = record {
     flags = record { arity = t .arity; small = ready .arity; powers = refl };
     own-flag = branch-bytes .flag;
@@ -64,14 +66,14 @@ module _ (input : List ℕ) (t : State) (work : List ℕ) (made : List Record) (
     left-before = omega (arith, below-top t (t .top - 2) (getD input (t .rule + 3) 0) (omega (arith, two-below)) (branch-bytes .left));
     right-before = omega (arith, below-top t (t .top - 1) (getD input (t .rule + 4) 0) (omega (arith, two-below)) (branch-bytes .right));
     within = omega (arith, in-frame t (t .top) (getD input (t .rule + 5) 0) (branch-bytes .state), ready .frame);
-    left-low = low-row input t work made s (t .top - 2) (getD input (t .rule + 3) 0) (omega arith) (branch-bytes .left);
-    right-low = low-row input t work made s (t .top - 1) (getD input (t .rule + 4) 0) (omega arith) (branch-bytes .right);
-    low = low-row input t work made s (t .top) (getD input (t .rule + 5) 0) (omega arith) (branch-bytes .state);
+    left-low = low-shelf input t work made s (t .top - 2) (getD input (t .rule + 3) 0) (omega arith) (branch-bytes .left);
+    right-low = low-shelf input t work made s (t .top - 1) (getD input (t .rule + 4) 0) (omega arith) (branch-bytes .right);
+    low = low-shelf input t work made s (t .top) (getD input (t .rule + 5) 0) (omega arith) (branch-bytes .state);
     left-marked = lefts-frame .marked (getD input (t .rule + 3) 0) (branch-bytes .left);
     right-marked = rights-frame .marked (getD input (t .rule + 4) 0) (branch-bytes .right);
   }
 
-  pub branch-room : {rule : Branch} {batch : List ℕ} → rule ≡ branchOf input t (t .rule) → 3240 ≤ length batch → t .from ≤ t .limit
+  pub branch-room : {rule : Branch} {batch : List ℕ} → rule ≡ branchOf input t (t .rule) → batchNumbers ≤ length batch → t .from ≤ t .limit
       → Room rule (t .count) batch work
   branch-room {batch = batch} same enough few = subst (λ x. Room x (t .count) batch work) (sym same) (room-here batch enough few)
 
@@ -91,7 +93,7 @@ module _ (input : List ℕ) (t : State) (work : List ℕ) (made : List Record) (
 
 -- the rule is done
 module _ (input : List ℕ) (t : State) (work batch : List ℕ) (base : List Record) (s : Standing input t work (base ++ recordsIn (t .count) batch))
-    (start : length base ≡ t .from) (h : t .rule < length input) (branch : getD input (t .at) 0 ≡ 1 → ⊥) (count next : ℕ)
+    (start : length base ≡ t .from) (h : t .rule < length input) (branch : getD input (t .at) 0 ≡ leafKind → ⊥) (count next : ℕ)
     (work′ batch′ : List ℕ) (long : length work′ ≡ length work) where
   abbrev made : List Record
   made = base ++ recordsIn (t .count) batch
@@ -118,10 +120,10 @@ module _ (input : List ℕ) (t : State) (work batch : List ℕ) (base : List Rec
   bytes = branch-bytes input t work made s h branch
 
   module _ (e : Branches (branchOf input t (t .rule)) (t .count) batch work count batch′ work′)
-      (search : NextRule input (t .rule + 6) 18 (getD input (t .at + 1) 0) next) where
-    found : NextRule input (after input (t .rule)) (s .node .here .kind + 16) (number (s .node .here) 0) next
+      (search : NextRule input (t .rule + 6) branchRuleKind (getD input (t .at + 1) 0) next) where
+    found : NextRule input (after input (t .rule)) (s .node .here .kind + ruleAbove) (number (s .node .here) 0) next
     found =
-        let same : 18 ≡ s .node .here .kind + 16 = omega (arith, kind) in
+        let same : branchRuleKind ≡ s .node .here .kind + ruleAbove = omega (arith, kind) in
         subst₃ (λ x y z. NextRule input x y z next) (sym (bytes .behind)) same (label-here input t (s .constants) (s .node)) search
 
     done : Stands base (getD input (t .rule + 5) 0) (branchOf input t (t .rule)) z count batch′ work′
@@ -134,7 +136,7 @@ module _ (input : List ℕ) (t : State) (work batch : List ℕ) (base : List Rec
         (ap (λ x. 2 ^ x) (s .constants .arity))
         (λ b hb. lefts-frame input t work made s h branch .sets p b (bytes .left) hb)
         (λ b hb. rights-frame input t work made s h branch .sets q b (bytes .right) hb)
-        (own-row input t work made s r (bytes .state))
+        (own-shelf input t work made s r (bytes .state))
 
     step : through (branchStep recordSets (t .node) lefts rights) (made, s .slots)
         (splitsBy (queryIn input .arity) (number (s .node .here) 0)
@@ -156,17 +158,17 @@ module _ (input : List ℕ) (t : State) (work batch : List ℕ) (base : List Rec
         let used : length (base ++ recordsIn count batch′) ≡ t .from + count = omega (arith, more-records base count batch′) in
         record {
           standing =
-              row-standing input t work made s state (bytes .state) (base ++ recordsIn count batch′) (z .1) used long (e .row) (done .0 .row) (done .1)
+              shelf-standing input t work made s state (bytes .state) (base ++ recordsIn count batch′) (z .1) used long (e .shelf) (done .0 .shelf) (done .1)
               onward;
           rest =
-              row-rest input t work made s state (bytes .state) (base ++ recordsIn count batch′) (z .1) used long (e .row) (done .0 .row) (done .1)
+              shelf-rest input t work made s state (bytes .state) (base ++ recordsIn count batch′) (z .1) used long (e .shelf) (done .0 .shelf) (done .1)
               onward;
-          few = e .row .few;
+          few = e .shelf .few;
           fewer =
               fewer-left input t (s .constants) (s .node .here) (s .node .earlier) (s .node .stack) (made, s .slots) (s .rule) h next found;
         }
 
   -- of the numbers that the code has
   pub branch-onward : {rule : Branch} → rule ≡ branchOf input t (t .rule) → Branches rule (t .count) batch work count batch′ work′
-      → NextRule input (t .rule + 6) 18 (getD input (t .at + 1) 0) next → Onward input t work base count next work′ batch′
+      → NextRule input (t .rule + 6) branchRuleKind (getD input (t .at + 1) 0) next → Onward input t work base count next work′ batch′
   branch-onward same e = branch-stepped (subst (λ x. Branches x (t .count) batch work count batch′ work′) same e)

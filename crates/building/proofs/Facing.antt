@@ -15,11 +15,13 @@ use Rattle.paper.specs.declared.Built.the-variants.{Refused}
 use Rattle.paper.specs.declared.Head.{Head}
 use Rattle.paper.specs.declared.Refusal.{Refusal}
 use Rattle.building.specs.Batch.{Record, Set}
+use Rattle.building.specs.Bounds.{batchNumbers, mostRecords}
 use Rattle.building.specs.Driving.{Ready, Driven}
 use Rattle.building.specs.Face.{Builds}
 use Rattle.building.specs.Standing.{State}
-use Rattle.building.specs.Whole.{Begins, Started, Ended, Finishes}
-use Rattle.building.specs.declared.whole.Begun.the-variants as BegunIs
+use Rattle.building.specs.Start.{Begins, Started}
+use Rattle.building.specs.Answer.{Ended, Finishes}
+use Rattle.building.specs.declared.start.Begun.the-variants as BegunIs
 use Rattle.building.proofs.Finishing.{built-answer, built-refused}
 
 -- ---- refused at once
@@ -42,12 +44,12 @@ refused-face input work table r work′ (reply, early, same) = record {
 
 -- ---- begun
 module _ (input work : List ℕ) (table : List Record) (s : State) (work₁ : List ℕ) (b : Started input work (length table) s work₁) where
-  pub ready : (batch : List ℕ) → 3240 ≤ length batch → Ready input table s work₁ batch
+  pub ready : (batch : List ℕ) → batchNumbers ≤ length batch → Ready input table s work₁ batch
   ready batch long = record { standing = b .standing; room = long; entries = omega (arith, b .limit) }
 
   module _ (e : State) (table₂ : List Record) (work₂ : List ℕ) (d : Driven input table s work₁ table₂ e work₂) (long₁ : length work₁ ≡ length work)
       (long₂ : length work₂ ≡ length work₁) where
-    limit : e .limit ≡ min (length table) 60000
+    limit : e .limit ≡ min (length table) mostRecords
     limit = d .limit ∙ b .limit
 
     asked : s .asked ≡ e .asked

@@ -15,6 +15,7 @@ use Rattle.laws.proofs.ReadTree.{tree-read}
 use Rattle.laws.proofs.Replies.{Passes, unless-append}
 use Rattle.laws.specs.Plain.{Head}
 use Rattle.building.specs.Batch.{Record, Set, setIn}
+use Rattle.building.specs.Bounds.{mostFlags, mostNodes, mostPlaces, mostRecords}
 use Rattle.building.specs.Standing.{State, Stopped}
 use Rattle.building.proofs.Frames.{flags-at-most}
 use Rattle.building.proofs.Growing.{grows-none, grows-refused}
@@ -22,11 +23,11 @@ use Rattle.building.proofs.ReadInput.{query-part-passes, small-arity, t
 
 -- numbers that the head can hold
 pub record HeadFits (t : State) : Type 0 where
-  pub nodes : t .nodes ≤ 4095
-  pub arity : t .arity ≤ 4
-  pub few-flags : 2 ^ t .arity ≤ 16
+  pub nodes : t .nodes ≤ mostNodes
+  pub arity : t .arity ≤ mostPlaces
+  pub few-flags : 2 ^ t .arity ≤ mostFlags
   pub some-flag : 1 ≤ 2 ^ t .arity
-  pub used : t .from + t .count ≤ 60000
+  pub used : t .from + t .count ≤ mostRecords
   pub set : t .set ≤ 60001
 
 module _ (input : List ℕ) (t : State) (all : List Record) (s : Stopped input t all) where
@@ -39,7 +40,7 @@ module _ (input : List ℕ) (t : State) (all : List Record) (s : Stopped input t
   pub head-fits : t .over ≡ false → HeadFits t
   head-fits e =
       let d = s .done e in
-      let arity : t .arity ≤ 4 = omega (arith, s .constants .arity, small-arity input (s .constants .query) .1) in
+      let arity : t .arity ≤ mostPlaces = omega (arith, s .constants .arity, small-arity input (s .constants .query) .1) in
       record {
         nodes = omega (arith, s .constants .nodes, tree-read (treeRecords (recordsOf input)) tree .2);
         arity = arity;
@@ -49,7 +50,7 @@ module _ (input : List ℕ) (t : State) (all : List Record) (s : Stopped input t
         set = omega (arith, d .few, d .set, s .constants .limit);
       }
 
-  module _ (first : List ℕ) (entries : ℕ) (limit : t .limit ≡ min entries 60000) (enough : t .asked ≤ length first) where
+  module _ (first : List ℕ) (entries : ℕ) (limit : t .limit ≡ min entries mostRecords) (enough : t .asked ≤ length first) where
     -- past the limit
     pub built-refused : t .over ≡ true → build input (length first) entries ≡ refused 6
     built-refused e =
@@ -66,7 +67,7 @@ module _ (input : List ℕ) (t : State) (all : List Record) (s : Stopped input t
         ∙ rw (
           le-leb (workFor input) (length first) (omega (arith, s .constants .asked)),
           le-leb (length (madeFrom input)) entries (omega (arith, d .few)),
-          le-leb (length (madeFrom input)) 60000 (omega (arith, d .few)),
+          le-leb (length (madeFrom input)) mostRecords (omega (arith, d .few)),
         ) refl
 
     -- the head

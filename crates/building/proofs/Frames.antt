@@ -1,7 +1,7 @@
--- The slots of the unjoined subtrees in the lent work, frame by frame. The idea: frames are parts of one size, and so are the rows of a
+-- The slots of the unjoined subtrees in the lent work, frame by frame. The idea: frames are parts of one size, and so are the shelves of a
 -- frame; two such parts do not overlap, so that what is written in one leaves the others.
 -- First where slots stand, and a part of the work pasted over; then one frame: moved, cleared, copied; then the frames of a stack, and
--- the row of one state written in the frame on top; last that the work asked for has room for that frame.
+-- the shelf of one state written in the frame on top; last that the work asked for has room for that frame.
 use mathlib.Core.Bool.{Bool, false, true}
 use mathlib.Core.List.{List, [], _++_, _∷_}
 use mathlib.Core.Path.{_∙_, _≡_, ap, refl, subst, sym}
@@ -20,27 +20,29 @@ use Rattle.paper.specs.Stream.{StreamRecord}
 use Rattle.paper.specs.Tree.{Tree, grow, mostFrom, mostUnjoined, unjoined}
 use Rattle.laws.specs.Plain.{Set, empty}
 use Rattle.building.specs.Batch.{setIn}
+use Rattle.building.specs.Bounds.{mostFlags, mostFrames, mostPlaces, mostStates, slotSets}
 use Rattle.building.specs.Frames.{FrameIs, FramesAre, width}
-use Rattle.building.specs.Slots.{Marked, rowAt}
+use Rattle.building.specs.Slots.{Marked, shelfAt}
 use Rattle.building.proofs.Slots.{marked-same}
 
 -- ---- where slots stand
--- parts of one size, one after the other, do not overlap: frames, and the rows of a frame
+-- parts of one size, one after the other, do not overlap: frames, and the shelves of a frame
 pub parts-apart : (size i j : ℕ) → i < j → i * size + size ≤ j * size
 parts-apart size i j h = omega (arith, mul-le-mul-right size h)
 
 -- an arity has at most 16 flags, a frame at most 256 numbers, and there are at most 4,096 frames
-pub flags-at-most : (arity : ℕ) → arity ≤ 4 → 2 ^ arity ≤ 16
+pub flags-at-most : (arity : ℕ) → arity ≤ mostPlaces → 2 ^ arity ≤ mostFlags
 flags-at-most arity h = pow-mono h
 
-pub frame-at-most : (arity states : ℕ) → arity ≤ 4 → states ≤ 16 → width arity states ≤ 256
+pub frame-at-most : (arity states : ℕ) → arity ≤ mostPlaces → states ≤ mostStates → width arity states ≤ mostStates * mostFlags
 frame-at-most arity states ha hs = omega (arith, flags-at-most arity ha, mul-le-mul-right (2 ^ arity) hs)
 
-pub frames-at-most : (arity states frame : ℕ) → arity ≤ 4 → states ≤ 16 → frame ≤ 4096 → frame * width arity states ≤ 1048576
+pub frames-at-most : (arity states frame : ℕ) → arity ≤ mostPlaces → states ≤ mostStates → frame ≤ mostFrames
+    → frame * width arity states ≤ mostFrames * (mostStates * mostFlags)
 frames-at-most arity states frame ha hs hf = omega (arith, frame-at-most arity states ha hs, mul-le-mul-right (width arity states) hf)
 
-pub rows-at-most : (arity state : ℕ) → arity ≤ 4 → state ≤ 16 → state * 2 ^ arity ≤ 256
-rows-at-most arity state ha hq = omega (arith, flags-at-most arity ha, mul-le-mul-right (2 ^ arity) hq)
+pub shelves-at-most : (arity state : ℕ) → arity ≤ mostPlaces → state ≤ mostStates → state * 2 ^ arity ≤ mostStates * mostFlags
+shelves-at-most arity state ha hq = omega (arith, flags-at-most arity ha, mul-le-mul-right (2 ^ arity) hq)
 
 -- a slot stands in its frame
 pub slot-below : (arity states q b : ℕ) → q < states → b < 2 ^ arity → q * 2 ^ arity + b < width arity states
@@ -86,13 +88,13 @@ module _ (arity states : ℕ) where
       → ((i : ℕ) → i < width arity states → getD work′ (base′ + i) 0 ≡ getD work (base + i) 0)
       → FrameIs arity states work base slots → FrameIs arity states work′ base′ slots
   frame-moved work work′ base base′ slots same f = record {
-    sets = λ q b hq hb. f .sets q b hq hb ∙ ap (λ x. setIn (x % 65536)) (sym (row q b hq hb));
+    sets = λ q b hq hb. f .sets q b hq hb ∙ ap (λ x. setIn (x % slotSets)) (sym (shelf q b hq hb));
     marked = λ q hq.
-        marked-same (2 ^ arity) work work′ (base + q * 2 ^ arity) (base′ + q * 2 ^ arity) (pow-pos arity) (λ b hb. row q b hq hb) (f .marked q hq);
+        marked-same (2 ^ arity) work work′ (base + q * 2 ^ arity) (base′ + q * 2 ^ arity) (pow-pos arity) (λ b hb. shelf q b hq hb) (f .marked q hq);
   }
     where
-      row : (q b : ℕ) → q < states → b < 2 ^ arity → getD work′ (base′ + q * 2 ^ arity + b) 0 ≡ getD work (base + q * 2 ^ arity + b) 0
-      row q b hq hb =
+      shelf : (q b : ℕ) → q < states → b < 2 ^ arity → getD work′ (base′ + q * 2 ^ arity + b) 0 ≡ getD work (base + q * 2 ^ arity + b) 0
+      shelf q b hq hb =
           ap (λ (m : ℕ). getD work′ m 0) (let z : base′ + q * 2 ^ arity + b ≡ base′ + (q * 2 ^ arity + b) = omega arith in z)
           ∙ same (q * 2 ^ arity + b) (slot-below arity states q b hq hb)
           ∙ ap (λ (m : ℕ). getD work m 0) (let z : base + (q * 2 ^ arity + b) ≡ base + q * 2 ^ arity + b = omega arith in z)
@@ -101,21 +103,21 @@ module _ (arity states : ℕ) where
   pub frame-zero : (work : List ℕ) (base : ℕ) → ((i : ℕ) → i < width arity states → getD work (base + i) 0 ≡ 0)
       → FrameIs arity states work base (λ q b. empty)
   frame-zero work base zeros = record {
-    sets = λ q b hq hb. ap (λ x. setIn (x % 65536)) (sym (row q b hq hb));
+    sets = λ q b hq hb. ap (λ x. setIn (x % slotSets)) (sym (shelf q b hq hb));
     marked = λ q hq. record {
-      few = omega (arith, pow-pos (2 ^ arity), ap (λ x. x / 65536) (first q hq));
-      empty = λ b hb e. ap (λ x. x % 65536) (row q b hq hb);
+      few = omega (arith, pow-pos (2 ^ arity), ap (λ x. x / slotSets) (first q hq));
+      empty = λ b hb e. ap (λ x. x % slotSets) (shelf q b hq hb);
     };
   }
     where
-      row : (q b : ℕ) → q < states → b < 2 ^ arity → getD work (base + q * 2 ^ arity + b) 0 ≡ 0
-      row q b hq hb =
+      shelf : (q b : ℕ) → q < states → b < 2 ^ arity → getD work (base + q * 2 ^ arity + b) 0 ≡ 0
+      shelf q b hq hb =
           ap (λ (m : ℕ). getD work m 0) (let z : base + q * 2 ^ arity + b ≡ base + (q * 2 ^ arity + b) = omega arith in z)
           ∙ zeros (q * 2 ^ arity + b) (slot-below arity states q b hq hb)
 
       first : (q : ℕ) → q < states → getD work (base + q * 2 ^ arity) 0 ≡ 0
       first q hq =
-          ap (λ (m : ℕ). getD work m 0) (let z : base + q * 2 ^ arity ≡ base + q * 2 ^ arity + 0 = omega arith in z) ∙ row q 0 hq (pow-pos arity)
+          ap (λ (m : ℕ). getD work m 0) (let z : base + q * 2 ^ arity ≡ base + q * 2 ^ arity + 0 = omega arith in z) ∙ shelf q 0 hq (pow-pos arity)
 
   -- clearing a frame
   pub frame-cleared : (work : List ℕ) (base : ℕ) → base + width arity states ≤ length work
@@ -190,14 +192,14 @@ module _ (arity states : ℕ) where
       base : ℕ
       base = length others * size
 
-  -- a row of the frame on top is written: it is the row of one state, whose slots alone change
-  pub frame-row : (work work′ : List ℕ) (base : ℕ) (slots slots′ : Slots Set) (q : ℕ)
+  -- a shelf of the frame on top is written: it is the shelf of one state, whose slots alone change
+  pub frame-shelf : (work work′ : List ℕ) (base : ℕ) (slots slots′ : Slots Set) (q : ℕ)
       → ((i : ℕ) → i < base + q * 2 ^ arity → getD work′ i 0 ≡ getD work i 0)
       → ((i : ℕ) → base + q * 2 ^ arity + 2 ^ arity ≤ i → getD work′ i 0 ≡ getD work i 0)
-      → ((b : ℕ) → b < 2 ^ arity → slots′ q b ≡ rowAt work′ (base + q * 2 ^ arity) b) → Marked (2 ^ arity) work′ (base + q * 2 ^ arity)
+      → ((b : ℕ) → b < 2 ^ arity → slots′ q b ≡ shelfAt work′ (base + q * 2 ^ arity) b) → Marked (2 ^ arity) work′ (base + q * 2 ^ arity)
       → ((q′ b : ℕ) → (q′ ≡ q → ⊥) → slots′ q′ b ≡ slots q′ b)
       → FrameIs arity states work base slots → FrameIs arity states work′ base slots′
-  frame-row work work′ base slots slots′ q below above row marked others f = record {
+  frame-shelf work work′ base slots slots′ q below above shelf marked others f = record {
     sets = λ q′ b hq hb. go-sets q′ b hq hb (ltb q′ q) (ltb q q′) refl refl;
     marked = λ q′ hq. go-marked q′ hq (ltb q′ q) (ltb q q′) refl refl;
   }
@@ -209,8 +211,8 @@ module _ (arity states : ℕ) where
       behind q′ b l hb = above (base + q′ * 2 ^ arity + b) (omega (arith, parts-apart (2 ^ arity) q q′ l))
 
       other-sets : (q′ b : ℕ) → q′ < states → b < 2 ^ arity → (q′ ≡ q → ⊥)
-          → getD work′ (base + q′ * 2 ^ arity + b) 0 ≡ getD work (base + q′ * 2 ^ arity + b) 0 → slots′ q′ b ≡ rowAt work′ (base + q′ * 2 ^ arity) b
-      other-sets q′ b hq hb apart e = others q′ b apart ∙ f .sets q′ b hq hb ∙ ap (λ x. setIn (x % 65536)) (sym e)
+          → getD work′ (base + q′ * 2 ^ arity + b) 0 ≡ getD work (base + q′ * 2 ^ arity + b) 0 → slots′ q′ b ≡ shelfAt work′ (base + q′ * 2 ^ arity) b
+      other-sets q′ b hq hb apart e = others q′ b apart ∙ f .sets q′ b hq hb ∙ ap (λ x. setIn (x % slotSets)) (sym e)
 
       other-marked : (q′ : ℕ) → q′ < states
           → ((b : ℕ) → b < 2 ^ arity → getD work′ (base + q′ * 2 ^ arity + b) 0 ≡ getD work (base + q′ * 2 ^ arity + b) 0)
@@ -219,12 +221,12 @@ module _ (arity states : ℕ) where
           marked-same (2 ^ arity) work work′ (base + q′ * 2 ^ arity) (base + q′ * 2 ^ arity) (pow-pos arity) same (f .marked q′ hq)
 
       go-sets : (q′ b : ℕ) → q′ < states → b < 2 ^ arity → (c d : Bool) → ltb q′ q ≡ c → ltb q q′ ≡ d
-          → slots′ q′ b ≡ rowAt work′ (base + q′ * 2 ^ arity) b
+          → slots′ q′ b ≡ shelfAt work′ (base + q′ * 2 ^ arity) b
       go-sets q′ b hq hb true d h k = let l = ltb-true q′ q h in other-sets q′ b hq hb (λ e. omega arith) (before q′ b l hb)
       go-sets q′ b hq hb false true h k = let l = ltb-true q q′ k in other-sets q′ b hq hb (λ e. omega arith) (behind q′ b l hb)
       go-sets q′ b hq hb false false h k =
           let there : q ≡ q′ = omega (arith, ltb-false q′ q h, ltb-false q q′ k) in
-          subst (λ (x : ℕ). slots′ x b ≡ rowAt work′ (base + x * 2 ^ arity) b) there (row b hb)
+          subst (λ (x : ℕ). slots′ x b ≡ shelfAt work′ (base + x * 2 ^ arity) b) there (shelf b hb)
 
       go-marked : (q′ : ℕ) → q′ < states → (c d : Bool) → ltb q′ q ≡ c → ltb q q′ ≡ d → Marked (2 ^ arity) work′ (base + q′ * 2 ^ arity)
       go-marked q′ hq true d h k = other-marked q′ hq (λ b hb. before q′ b (ltb-true q′ q h) hb)

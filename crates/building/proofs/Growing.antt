@@ -19,7 +19,9 @@ use Rattle.paper.specs.Stream.{StreamRecord, number, queryRecords, recordsOf, t
 use Rattle.paper.specs.Tree.{Tree, root, treeOf}
 use Rattle.laws.proofs.Replies.{Passes, unless-append}
 use Rattle.laws.specs.Plain.{Head, Record, Set, at, empty, unit}
+use Rattle.building.specs.Bounds.{mostRecords}
 use Rattle.building.specs.Growing.{Grows}
+use Rattle.building.specs.Kinds.{leafKind}
 use Rattle.building.specs.NodeOrder.{Stack, fromNode, joinSlots, nodeSlots, pushSlots}
 use Rattle.building.proofs.NodeOrder.{node-order}
 
@@ -125,7 +127,7 @@ module _ (Q : Query) where
       branches-grow n older last (splits (Q .arity) (Q .rules) label) (s, λ q b. empty)
 
   pub node-grows : (r : StreamRecord) (n : ℕ) (stack : List (Slots Set)) (s : List Record) → Grows s ((nodeSlots Q r n stack s) .0)
-  node-grows r n stack s = go (eqb (r .kind) 1)
+  node-grows r n stack s = go (eqb (r .kind) leafKind)
     where
       go : (c : Bool) → Grows s ((cond {A = Stack} c (pushSlots Q (number r 0) n stack s) (joinSlots Q (number r 0) n stack s)) .0)
       go true = leaves-grow (number r 0) n (Q .rules) (s, λ q b. empty)
@@ -156,11 +158,11 @@ module _ (Q : Query) (records : List StreamRecord) (p : Passes (treePart records
 -- a stream that is fine, with work enough, is refused with 6 where more records than fit are made, at the end or before
 pub grows-refused : (input : List ℕ) (workLength tableLength : ℕ) → Passes (treePart (treeRecords (recordsOf input)))
     → Passes (queryPart (queryRecords (recordsOf input))) → workFor input ≤ workLength
-    → {s : List Record} → Grows s (madeFrom input) → min tableLength 60000 < length s → build input workLength tableLength ≡ refused 6
+    → {s : List Record} → Grows s (madeFrom input) → min tableLength mostRecords < length s → build input workLength tableLength ≡ refused 6
 grows-refused input workLength tableLength tree query work g many =
     unless-append (treePart (treeRecords (recordsOf input))) (queryPart (queryRecords (recordsOf input)) ++ room) built tree
     ∙ unless-append (queryPart (queryRecords (recordsOf input))) room built query
-    ∙ rw (le-leb (workFor input) workLength work) (go (leb used tableLength) (leb used 60000) refl refl)
+    ∙ rw (le-leb (workFor input) workLength work) (go (leb used tableLength) (leb used mostRecords) refl refl)
   where
     built : Head × List Record
     built = (headFrom input, madeFrom input)
@@ -169,10 +171,10 @@ grows-refused input workLength tableLength tree query work g many =
     used = length (madeFrom input)
 
     room : List Test
-    room = (5, leb (workFor input) workLength) ∷ (6, leb used tableLength && leb used 60000) ∷ []
+    room = (5, leb (workFor input) workLength) ∷ (6, leb used tableLength && leb used mostRecords) ∷ []
 
-    go : (c d : Bool) → leb used tableLength ≡ c → leb used 60000 ≡ d → cond (c && d) (answer built) (refused 6) ≡ refused 6
+    go : (c d : Bool) → leb used tableLength ≡ c → leb used mostRecords ≡ d → cond (c && d) (answer built) (refused 6) ≡ refused 6
     go true true e k =
-        absurd (omega (arith, leb-true used tableLength e, leb-true used 60000 k, grows-past g (min tableLength 60000) many))
+        absurd (omega (arith, leb-true used tableLength e, leb-true used mostRecords k, grows-past g (min tableLength mostRecords) many))
     go true false e k = refl
     go false d e k = refl

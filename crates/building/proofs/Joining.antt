@@ -10,8 +10,10 @@ use lib.ListN.{drop, getD, length, length-drop}
 use lib.Seq.{getD-drop, length-paste, paste}
 use Rattle.paper.specs.Building.{Slots}
 use Rattle.building.specs.Batch.{Record, Set}
+use Rattle.building.specs.Bounds.{slotSets}
 use Rattle.building.specs.Frames.{FramesAre, width}
 use Rattle.building.specs.Coming.{Joined}
+use Rattle.building.specs.Kinds.{leafKind}
 use Rattle.building.specs.Slots.{slotAt}
 use Rattle.building.specs.Standing.{InWork, Standing, State, stackLeft}
 use Rattle.building.proofs.Frames.{frames-joined, parts-apart, paste-after}
@@ -49,21 +51,21 @@ copied-down arity states bound work slots (last ∷ older ∷ others) base two f
     copied-low i h =
         paste-low work (drop top work) (length others * size) size bound (omega (arith, higher)) (omega (arith, length-drop top work))
         (λ j l. low j (omega (arith, higher, suc-mul (length (last ∷ older ∷ others)) size)))
-        (λ j l. omega (arith, ap (λ x. x % 65536) (getD-drop top work j 0), low (top + j) (omega (arith, suc-mul (length (last ∷ older ∷ others)) size))))
+        (λ j l. omega (arith, ap (λ x. x % slotSets) (getD-drop top work j 0), low (top + j) (omega (arith, suc-mul (length (last ∷ older ∷ others)) size))))
         i (omega (arith, suc-mul (length others) size))
 
 module _ (input : List ℕ) (t : State) (work : List ℕ) (made : List Record) (s : Standing input t work made) where
-  no-leaf : (getD input (t .at) 0 ≡ 1 → ⊥) → s .node .here .kind ≡ 1 → ⊥
+  no-leaf : (getD input (t .at) 0 ≡ leafKind → ⊥) → s .node .here .kind ≡ leafKind → ⊥
   no-leaf branch w = branch (kind-here input t (s .constants) (s .node) ∙ w)
 
-  pub two-below : (getD input (t .at) 0 ≡ 1 → ⊥) → 2 ≤ t .top
+  pub two-below : (getD input (t .at) 0 ≡ leafKind → ⊥) → 2 ≤ t .top
   two-below branch = two-frames input t (s .constants) (s .node) (no-leaf branch)
 
   -- a leaf
-  pub leaf-joined : getD input (t .at) 0 ≡ 1 → Joined input t work made s (t .top + 1) work
+  pub leaf-joined : getD input (t .at) 0 ≡ leafKind → Joined input t work made s (t .top + 1) work
   leaf-joined leaf =
-      let kind : s .node .here .kind ≡ 1 = sym (kind-here input t (s .constants) (s .node)) ∙ leaf in
-      let same : s .node .stack ≡ stackLeft (s .node .here) (s .node .stack) = rw (eq-eqb (s .node .here .kind) 1 kind) in
+      let kind : s .node .here .kind ≡ leafKind = sym (kind-here input t (s .constants) (s .node)) ∙ leaf in
+      let same : s .node .stack ≡ stackLeft (s .node .here) (s .node .stack) = rw (eq-eqb (s .node .here .kind) leafKind kind) in
       record {
         high = omega (arith, s .node .high, ap length same);
         frames = subst (λ stack. InWork t work (s .slots ∷ stack)) same (s .frames);
@@ -71,14 +73,14 @@ module _ (input : List ℕ) (t : State) (work : List ℕ) (made : List Record) (
       }
 
   -- a branch: there is room to copy its frame
-  pub join-room : (getD input (t .at) 0 ≡ 1 → ⊥) → {from to n : ℕ} → from ≡ t .top * width (t .arity) (t .states)
+  pub join-room : (getD input (t .at) 0 ≡ leafKind → ⊥) → {from to n : ℕ} → from ≡ t .top * width (t .arity) (t .states)
       → to ≡ (t .top - 2) * width (t .arity) (t .states) → n ≡ width (t .arity) (t .states) → (to + n ≤ from) × (from + n ≤ length work)
   join-room branch e₁ e₂ e₃ =
       let two = two-below branch in
       let below = parts-apart (width (t .arity) (t .states)) (t .top - 2) (t .top) (omega (arith, two)) in
       (omega (arith, below), omega (arith, frame-room input t (s .constants) (s .node), s .frames .room))
 
-  pub branch-joined : (getD input (t .at) 0 ≡ 1 → ⊥) → {from to n : ℕ} {work′ : List ℕ} → from ≡ t .top * width (t .arity) (t .states)
+  pub branch-joined : (getD input (t .at) 0 ≡ leafKind → ⊥) → {from to n : ℕ} {work′ : List ℕ} → from ≡ t .top * width (t .arity) (t .states)
       → to ≡ (t .top - 2) * width (t .arity) (t .states) → n ≡ width (t .arity) (t .states) → work′ ≡ paste work to (drop from work) n
       → Joined input t work made s (t .top - 1) work′
   branch-joined branch {from} {to} {n} {work′} e₁ e₂ e₃ e = record {
@@ -101,7 +103,7 @@ module _ (input : List ℕ) (t : State) (work : List ℕ) (made : List Record) (
       two = two-below branch
 
       left : stackLeft (s .node .here) (s .node .stack) ≡ drop 2 (s .node .stack)
-      left = rw (ne-eqb (s .node .here .kind) 1 (no-leaf branch))
+      left = rw (ne-eqb (s .node .here .kind) leafKind (no-leaf branch))
 
       joined : List ℕ
       joined = paste work (base * size) (drop (length (s .node .stack) * size) work) size

@@ -12,32 +12,34 @@ use Rattle.paper.specs.Refusals.{queryIn}
 use Rattle.paper.specs.Stream.{number, recordsOf}
 use Rattle.stream.specs.Positions.{NextRule, after, recordAt}
 use Rattle.building.specs.Batch.{Record, Set, recordsIn}
-use Rattle.building.specs.Branches.{rowFrom}
-use Rattle.building.specs.Rules.{Leaves, OneRow}
-use Rattle.building.specs.Slots.{rowAt}
+use Rattle.building.specs.Bounds.{mostFlags, mostStates}
+use Rattle.building.specs.Branches.{shelfFrom}
+use Rattle.building.specs.Kinds.{leafKind, leafRuleKind, ruleAbove}
+use Rattle.building.specs.Rules.{Leaves, OneShelf}
+use Rattle.building.specs.Slots.{shelfAt}
 use Rattle.building.specs.Standing.{AtRule, Standing, State}
 use Rattle.building.proofs.Frames.{flags-at-most, slot-below}
 use Rattle.building.proofs.Limits.{more-records}
 use Rattle.building.proofs.NodeRules.{LeafRuleAt, fewer-left, leaf-first, leaf-rule-at, on-to-next}
-use Rattle.building.proofs.OwnRow.{Onward, low-row, own-row, row-rest, row-standing}
+use Rattle.building.proofs.OwnShelf.{Onward, low-shelf, own-shelf, shelf-rest, shelf-standing}
 use Rattle.building.proofs.Present.{NodeReady, kind-here, label-here, node-ready}
-use Rattle.building.proofs.Running.{row-put, slot-row}
+use Rattle.building.proofs.Running.{shelf-put, slot-shelf}
 
--- where the row of a leaf's rule stands
-abbrev pub leafRow : List ℕ → State → ℕ
-leafRow input t = rowFrom t (t .top) (getD input (t .rule + 3) 0)
+-- where the shelf of a leaf's rule stands
+abbrev pub leafShelf : List ℕ → State → ℕ
+leafShelf input t = shelfFrom t (t .top) (getD input (t .rule + 3) 0)
 
 -- what the code asks of the numbers
 pub record LeafReady (input : List ℕ) (t : State) (work : List ℕ) : Type 0 where
   pub node : NodeReady input t work
   pub rule : t .rule + 4 ≤ length input
-  pub flag : getD input (t .rule + 2) 0 < 16
-  pub state : getD input (t .rule + 3) 0 < 16
-  pub slot : leafRow input t + getD input (t .rule + 2) 0 < length work
+  pub flag : getD input (t .rule + 2) 0 < mostFlags
+  pub state : getD input (t .rule + 3) 0 < mostStates
+  pub slot : leafShelf input t + getD input (t .rule + 2) 0 < length work
 
 module _ (input : List ℕ) (t : State) (work : List ℕ) (made : List Record) (s : Standing input t work made) (h : t .rule < length input)
-    (leaf : getD input (t .at) 0 ≡ 1) where
-  leaf-kind : s .node .here .kind ≡ 1
+    (leaf : getD input (t .at) 0 ≡ leafKind) where
+  leaf-kind : s .node .here .kind ≡ leafKind
   leaf-kind = sym (kind-here input t (s .constants) (s .node)) ∙ leaf
 
   -- the bytes of the rule
@@ -62,7 +64,7 @@ module _ (input : List ℕ) (t : State) (work : List ℕ) (made : List Record) (
 
 -- the rule is done
 module _ (input : List ℕ) (t : State) (work batch : List ℕ) (base : List Record) (s : Standing input t work (base ++ recordsIn (t .count) batch))
-    (start : length base ≡ t .from) (h : t .rule < length input) (leaf : getD input (t .at) 0 ≡ 1) (count next : ℕ)
+    (start : length base ≡ t .from) (h : t .rule < length input) (leaf : getD input (t .at) 0 ≡ leafKind) (count next : ℕ)
     (work′ batch′ : List ℕ) (long : length work′ ≡ length work) where
   abbrev made : List Record
   made = base ++ recordsIn (t .count) batch
@@ -71,19 +73,19 @@ module _ (input : List ℕ) (t : State) (work batch : List ℕ) (base : List Rec
   state = getD input (t .rule + 3) 0
 
   abbrev slots : Slots Set
-  slots = put (s .slots) (getD input (t .rule + 3) 0) (getD input (t .rule + 2) 0) (rowAt work′ (leafRow input t) (getD input (t .rule + 2) 0))
+  slots = put (s .slots) (getD input (t .rule + 3) 0) (getD input (t .rule + 2) 0) (shelfAt work′ (leafShelf input t) (getD input (t .rule + 2) 0))
 
-  kind : s .node .here .kind ≡ 1
+  kind : s .node .here .kind ≡ leafKind
   kind = leaf-kind input t work made s h leaf
 
   bytes : LeafRuleAt input t (number (s .node .here) 0)
   bytes = leaf-bytes input t work made s h leaf
 
-  module _ (e : Leaves (t .node) (getD input (t .rule + 2) 0) (leafRow input t) (t .from) (t .count) batch work count batch′ work′)
-      (search : NextRule input (t .rule + 4) 17 (getD input (t .at + 1) 0) next) where
-    found : NextRule input (after input (t .rule)) (s .node .here .kind + 16) (number (s .node .here) 0) next
+  module _ (e : Leaves (t .node) (getD input (t .rule + 2) 0) (leafShelf input t) (t .from) (t .count) batch work count batch′ work′)
+      (search : NextRule input (t .rule + 4) leafRuleKind (getD input (t .at + 1) 0) next) where
+    found : NextRule input (after input (t .rule)) (s .node .here .kind + ruleAbove) (number (s .node .here) 0) next
     found =
-        let same : 17 ≡ s .node .here .kind + 16 = omega (arith, kind) in
+        let same : leafRuleKind ≡ s .node .here .kind + ruleAbove = omega (arith, kind) in
         subst₃ (λ x y z. NextRule input x y z next) (sym (bytes .behind)) same (label-here input t (s .constants) (s .node)) search
 
     step : leafStep recordSets (number (s .node .here) 0) (t .node) (made, s .slots)
@@ -101,28 +103,28 @@ module _ (input : List ℕ) (t : State) (work batch : List ℕ) (base : List Rec
         (leaf-first (queryIn input) (s .node .here) (t .node) (s .node .stack) kind (recordAt input (t .rule))
         (recordsOf (drop (after input (t .rule)) input)) (bytes .rule) (made, s .slots) (base ++ recordsIn count batch′, slots) step)
 
-    one-row : OneRow (leafRow input t) (2 ^ t .arity) (t .from) 1 (t .count) work count work′
-    one-row =
-        slot-row (e .slot) (2 ^ t .arity) (bytes .flag) (low-row input t work made s (t .top) state (omega arith) (bytes .state))
+    one-shelf : OneShelf (leafShelf input t) (2 ^ t .arity) (t .from) 1 (t .count) work count work′
+    one-shelf =
+        slot-shelf (e .slot) (2 ^ t .arity) (bytes .flag) (low-shelf input t work made s (t .top) state (omega arith) (bytes .state))
 
     others : (q b : ℕ) → (q ≡ state → ⊥) → slots q b ≡ s .slots q b
     others q b apart = rw (ne-eqb state q (λ same. apart (sym same)))
 
     leaf-stepped : Onward input t work base count next work′ batch′
     leaf-stepped =
-        let row = row-put (e .slot) (2 ^ t .arity) state (s .slots) (own-row input t work made s state (bytes .state)) in
+        let shelf = shelf-put (e .slot) (2 ^ t .arity) state (s .slots) (own-shelf input t work made s state (bytes .state)) in
         let used : length (base ++ recordsIn count batch′) ≡ t .from + count = omega (arith, more-records base count batch′) in
         record {
-          standing = row-standing input t work made s state (bytes .state) (base ++ recordsIn count batch′) slots used long one-row row others onward;
-          rest = row-rest input t work made s state (bytes .state) (base ++ recordsIn count batch′) slots used long one-row row others onward;
+          standing = shelf-standing input t work made s state (bytes .state) (base ++ recordsIn count batch′) slots used long one-shelf shelf others onward;
+          rest = shelf-rest input t work made s state (bytes .state) (base ++ recordsIn count batch′) slots used long one-shelf shelf others onward;
           few = omega (arith, e .slot .few);
           fewer =
               fewer-left input t (s .constants) (s .node .here) (s .node .earlier) (s .node .stack) (made, s .slots) (s .rule) h next found;
         }
 
   -- of the numbers that the code has
-  pub leaf-onward : {to : ℕ} → to ≡ leafRow input t
+  pub leaf-onward : {to : ℕ} → to ≡ leafShelf input t
       → Leaves (t .node) (getD input (t .rule + 2) 0) to (t .from) (t .count) batch work count batch′ work′
-      → NextRule input (t .rule + 4) 17 (getD input (t .at + 1) 0) next → Onward input t work base count next work′ batch′
+      → NextRule input (t .rule + 4) leafRuleKind (getD input (t .at + 1) 0) next → Onward input t work base count next work′ batch′
   leaf-onward same e =
       leaf-stepped (subst (λ x. Leaves (t .node) (getD input (t .rule + 2) 0) x (t .from) (t .count) batch work count batch′ work′) same e)

@@ -1,3 +1,4 @@
+-- The lemmas that the proofs of the functions cite, each file behind those that it cites. Last what is shown of `build` itself.
 pub mod Written
 pub mod Marks
 pub mod Slots
@@ -18,13 +19,13 @@ pub mod Present
 pub mod NodeRules
 pub mod NodeEnd
 pub mod Limits
-pub mod OwnRow
+pub mod OwnShelf
 pub mod LeafTurn
 pub mod BranchTurn
 pub mod RuleLoop
 pub mod Joining
 pub mod NextNode
-pub mod Roots
+pub mod UnitedRoots
 pub mod Stopping
 pub mod TurnLoop
 pub mod Beginning

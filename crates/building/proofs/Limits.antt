@@ -13,6 +13,7 @@ use Rattle.paper.specs.Refusals.{madeFrom, nodesIn}
 use Rattle.paper.specs.Stream.{recordsOf}
 use Rattle.table.proofs.Batches.{length-records}
 use Rattle.building.specs.Batch.{Record, recordsIn}
+use Rattle.building.specs.Bounds.{batchRecords}
 use Rattle.building.specs.Standing.{Constants, Filling, Standing, State, Stepped, turnsLeft}
 use Rattle.building.specs.States.{counted, ended, more, stopped}
 use Rattle.building.proofs.Growing.{grows-past}
@@ -64,7 +65,7 @@ stops-past input t work batch base f set rest many = record {
 
 -- ---- rules of a node that are done, with so many records in the batch
 module _ (input : List ℕ) (t : State) (work batch : List ℕ) (base : List Record) (f : Filling input t work batch base) (count next : ℕ)
-    (work′ batch′ : List ℕ) (s : Standing input (more t count next) work′ (base ++ recordsIn count batch′)) (few : count ≤ 648)
+    (work′ batch′ : List ℕ) (s : Standing input (more t count next) work′ (base ++ recordsIn count batch′)) (few : count ≤ batchRecords)
     (rest : drop (t .asked) work′ ≡ drop (t .asked) work)
     (fewer : length (recordsOf (drop next input)) < length (recordsOf (drop (t .rule) input))) where
   -- too many

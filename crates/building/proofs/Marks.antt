@@ -1,4 +1,4 @@
--- The marks of a row as the binary digits of a number. First one mark of a number; then the first mark and the others, in one step; then
+-- The marks of a shelf as the binary digits of a number. First one mark of a number; then the first mark and the others, in one step; then
 -- marks taken one after the other; last a mark that is added. The idea: the lowest digit is the first mark, or the first mark stands one
 -- up from that of the half.
 use mathlib.Core.Bool.{Bool, false, true}
@@ -13,6 +13,7 @@ use lib.Bits.{and-le-l, and-le-r, and-self, and-step, bitAnd, bitOr, or-add-and,
 use lib.Count.{trailingZeros, under}
 use lib.Dec.{ltb}
 use lib.Pow.{pow-lt, pow-mono, pow-pos}
+use Rattle.building.specs.Bounds.{mostFlags}
 use Rattle.building.specs.Slots.{markAt}
 
 -- ---- one mark
@@ -107,15 +108,15 @@ firstMark marks = trailingZeros 64 marks
 abbrev pub laterMarks : ℕ → ℕ
 laterMarks marks = bitAnd marks (marks - 1)
 
--- of the marks of a row of so many flags, those before n are taken
+-- of the marks of a shelf of so many flags, those before n are taken
 pub record Rest (size all n marks : ℕ) : Type 0 where
-  pub small : size ≤ 16
+  pub small : size ≤ mostFlags
   pub far : n ≤ size
   pub few : marks < 2 ^ size
   taken : (b : ℕ) → b < n → markAt marks b ≡ 0
   left : (b : ℕ) → n ≤ b → markAt marks b ≡ 0 → markAt all b ≡ 0
 
-pub rest-starts : (size all : ℕ) → size ≤ 16 → all < 2 ^ size → Rest size all 0 all
+pub rest-starts : (size all : ℕ) → size ≤ mostFlags → all < 2 ^ size → Rest size all 0 all
 rest-starts size all small few = record {
   small = small;
   far = omega arith;
@@ -131,7 +132,7 @@ rest-ends size all n marks r e b h = r .left b h (ap (λ x. markAt x b) e ∙ no
 -- the first of those left, and the others
 module _ (size all n marks : ℕ) (r : Rest size all n marks) (some : (marks ≡ 0 → ⊥)) where
   taken-first : Taken marks (firstMark marks) (laterMarks marks)
-  taken-first = first-taken 64 marks (omega arith) (omega (arith, r .few, pow-mono {i = size} {j = 16} (r .small)))
+  taken-first = first-taken 64 marks (omega arith) (omega (arith, r .few, pow-mono {i = size} {j = mostFlags} (r .small)))
 
   pub first-below : firstMark marks < size
   first-below = go (ltb (firstMark marks) size) refl

@@ -11,7 +11,9 @@ use Rattle.paper.specs.Refusals.{nodesIn}
 use Rattle.paper.specs.Stream.{StreamRecord, bodyLength, number, recordsOf, recordsWithin}
 use Rattle.stream.specs.Positions.{NextRule}
 use Rattle.building.specs.Batch.{Record, recordsIn}
+use Rattle.building.specs.Bounds.{batchRecords, slotSets}
 use Rattle.building.specs.Frames.{width}
+use Rattle.building.specs.Kinds.{ruleAbove}
 use Rattle.building.specs.Slots.{slotAt}
 use Rattle.building.specs.Coming.{Come, Coming, Joined}
 use Rattle.building.specs.Standing.{AtRule, Constants, Standing, State, Stepped, noSlots, stackLeft}
@@ -38,7 +40,7 @@ module _ (input : List ℕ) (t : State) (node at top : ℕ) (work : List ℕ) (m
   pub coming-ready : NodeReady input (started t node at top 0) work
   coming-ready = node-ready input (started t node at top 0) work (constants-there 0) (s .here) (s .frames .room)
 
-  module _ (rule : ℕ) (search : NextRule input (t .rules) (s .here .here .kind + 16) (number (s .here .here) 0) rule) where
+  module _ (rule : ℕ) (search : NextRule input (t .rules) (s .here .here .kind + ruleAbove) (number (s .here .here) 0) rule) where
     abbrev size : ℕ
     size = width (t .arity) (t .states)
 
@@ -66,7 +68,7 @@ module _ (input : List ℕ) (t : State) (node at top : ℕ) (work : List ℕ) (m
     low : (i : ℕ) → i < length (noSlots ∷ s .here .stack) * width (t .arity) (t .states) → slotAt cleared i ≤ t .from + t .count + 1
     low i h =
         paste-low work (replicate size 0) base size (t .from + t .count + 1) fits enough (s .frames .low)
-        (λ j l. omega (arith, ap (λ x. x % 65536) (getD-replicate {A = ℕ} size j 0 0 l))) i (omega (arith, suc-mul (length (s .here .stack)) size))
+        (λ j l. omega (arith, ap (λ x. x % slotSets) (getD-replicate {A = ℕ} size j 0 0 l))) i (omega (arith, suc-mul (length (s .here .stack)) size))
 
     come : Come input t node work made (started t node at top rule) cleared
     come = record {
@@ -96,16 +98,16 @@ module _ (input : List ℕ) (t : State) (node at top : ℕ) (work : List ℕ) (m
 
   -- of the numbers that the code has
   pub has-come : {rule kind label from n : ℕ} {work′ : List ℕ} {r : State} → from ≡ top * width (t .arity) (t .states)
-      → n ≡ width (t .arity) (t .states) → work′ ≡ paste work from (replicate n 0) n → kind ≡ getD input at 0 + 16
+      → n ≡ width (t .arity) (t .states) → work′ ≡ paste work from (replicate n 0) n → kind ≡ getD input at 0 + ruleAbove
       → label ≡ getD input (at + 1) 0 → NextRule input (t .rules) kind label rule → r ≡ started t node at top rule
       → Come input t node work made r work′
   has-come {rule} {kind} {label} {from} {n} {work′} {r} e₁ e₂ e k l search result =
       subst₂ (λ x w. Come input t node work made x w) (sym result) (sym pasted) (come rule found)
     where
-      found : NextRule input (t .rules) (s .here .here .kind + 16) (number (s .here .here) 0) rule
+      found : NextRule input (t .rules) (s .here .here .kind + ruleAbove) (number (s .here .here) 0) rule
       found =
           subst₂ (λ x y. NextRule input (t .rules) x y rule)
-          (k ∙ ap (λ x. x + 16) (kind-here input (started t node at top 0) (constants-there 0) (s .here)))
+          (k ∙ ap (λ x. x + ruleAbove) (kind-here input (started t node at top 0) (constants-there 0) (s .here)))
           (l ∙ label-here input (started t node at top 0) (constants-there 0) (s .here)) search
 
       size : ℕ
@@ -156,7 +158,7 @@ module _ (input : List ℕ) (t : State) (work : List ℕ) (made : List Record) (
   -- and so the turn is done
   pub node-stepped : {top : ℕ} {work₁ work₂ : List ℕ} {r : State} → Joined input t work made s top work₁
       → Come input t (t .node + 1) work₁ made r work₂ → (batch : List ℕ) (base : List Record) → made ≡ base ++ recordsIn (t .count) batch
-      → length base ≡ t .from → t .from + t .count ≤ t .limit → t .count ≤ 648 → Stepped input t work base r work₂ batch
+      → length base ≡ t .from → t .from + t .count ≤ t .limit → t .count ≤ batchRecords → Stepped input t work base r work₂ batch
   node-stepped {work₂ = work₂} {r} j c batch base all start fits count = record {
     limit = c .limit;
     asked = c .asked;

@@ -16,6 +16,7 @@ use Rattle.paper.specs.Stream.{StreamRecord, number, recordsOf, treeRecords}
 use Rattle.stream.proofs.Positions.{records-none}
 use Rattle.building.specs.Batch.{Record, Set}
 use Rattle.building.specs.Growing.{Grows}
+use Rattle.building.specs.Kinds.{leafKind}
 use Rattle.building.specs.NodeOrder.{Stack, fromNode, joinSlots, nodeSlots, pushSlots}
 use Rattle.building.specs.Standing.{AtNode, AtRule, Constants, State, atNode, noSlots, stackLeft}
 use Rattle.building.proofs.Growing.{branches-grow, grows-then, leaves-grow, node-early}
@@ -25,10 +26,10 @@ use Rattle.building.proofs.ReadInput.{tree-passes}
 
 module _ (Q : Query) (r : StreamRecord) (n : ℕ) (stack : List (Slots Set)) where
   -- all rules of a node make what its record does to the stack
-  node-comes-to : ((r .kind ≡ 1 → ⊥) → 2 ≤ length stack) → (s : List Record)
+  node-comes-to : ((r .kind ≡ leafKind → ⊥) → 2 ≤ length stack) → (s : List Record)
       → nodeSlots Q r n stack s
       ≡ ((atNode Q r n stack (Q .rules) (s, noSlots)) .0, (atNode Q r n stack (Q .rules) (s, noSlots)) .1 ∷ stackLeft r stack)
-  node-comes-to two s = go (eqb (r .kind) 1) refl
+  node-comes-to two s = go (eqb (r .kind) leafKind) refl
     where
       joined : List (Slots Set) → List Record × Slots Set
       joined xs =
@@ -42,22 +43,22 @@ module _ (Q : Query) (r : StreamRecord) (n : ℕ) (stack : List (Slots Set)) whe
       rules : Bool → List Record × Slots Set
       rules c = cond c (through (leafStep recordSets (number r 0) n) (s, noSlots) (Q .rules)) (joined stack)
 
-      go : (c : Bool) → eqb (r .kind) 1 ≡ c
+      go : (c : Bool) → eqb (r .kind) leafKind ≡ c
           → cond {A = Stack} c (pushSlots Q (number r 0) n stack s) (joinSlots Q (number r 0) n stack s)
           ≡ (rules c .0, rules c .1 ∷ cond c stack (drop 2 stack))
       go true e = refl
-      go false e = branch stack (two (eqb-false (r .kind) 1 e))
+      go false e = branch stack (two (eqb-false (r .kind) leafKind e))
 
   -- with no rule left, z is what they make
   rules-done : (z : List Record × Slots Set) → atNode Q r n stack [] z ≡ z
-  rules-done z = go (eqb (r .kind) 1)
+  rules-done z = go (eqb (r .kind) leafKind)
     where
       go : (c : Bool) → cond {A = List Record × Slots Set} c z z ≡ z
       go true = refl
       go false = refl
 
   rules-grow : (rules : List Rule) (z : List Record × Slots Set) → Grows (z .0) ((atNode Q r n stack rules z) .0)
-  rules-grow rules z = go (eqb (r .kind) 1)
+  rules-grow rules z = go (eqb (r .kind) leafKind)
     where
       f : Slots Set
       f = getD stack 1 noSlots
@@ -72,7 +73,7 @@ module _ (Q : Query) (r : StreamRecord) (n : ℕ) (stack : List (Slots Set)) whe
       go false = branches-grow n f g (splits (Q .arity) rules (number r 0)) z
 
 module _ (input : List ℕ) (t : State) (k : Constants input t) (n : AtNode input (t .node) (t .at) (t .top)) where
-  two : (n .here .kind ≡ 1 → ⊥) → 2 ≤ length (n .stack)
+  two : (n .here .kind ≡ leafKind → ⊥) → 2 ≤ length (n .stack)
   two e = omega (arith, n .high, two-frames input t k n e)
 
   abbrev all-rules : List Record × Slots Set

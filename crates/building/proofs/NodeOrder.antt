@@ -18,6 +18,7 @@ use Rattle.paper.specs.Stream.{StreamRecord, number}
 use Rattle.paper.specs.Tree.{Tree, grow, join, lastOf, leaf, treeOf, unjoined}
 use Rattle.laws.proofs.Replies.{Passes, passes-left, passes-right}
 use Rattle.laws.specs.Plain.{Record, Set}
+use Rattle.building.specs.Kinds.{leafKind}
 use Rattle.building.specs.NodeOrder.{Stack, fromNode, joinSlots, nodeSlots, pushSlots, stackSlots}
 
 module _ (Q : Query) where
@@ -56,7 +57,7 @@ module _ (Q : Query) where
   -- one record does to the slots what it does to the trees
   node-slots : (r : StreamRecord) (n : ℕ) (ts : List Tree) (s : List Record)
       → nodeSlots Q r n ((stackSlots Q ts s) .1) ((stackSlots Q ts s) .0) ≡ stackSlots Q ((grow (ts, n) r) .0) s
-  node-slots r n ts s = go (eqb (r .kind) 1)
+  node-slots r n ts s = go (eqb (r .kind) leafKind)
     where
       stack : List (Slots Set)
       stack = (stackSlots Q ts s) .1
@@ -121,8 +122,8 @@ tests-at tests passed (x ∷ xs) r rest p =
 
 -- a branch of a tree whose tests pass has two subtrees to join
 pub two-unjoined : (before : List StreamRecord) (r : StreamRecord) (rest : List StreamRecord) → Passes (treePart (before ++ (r ∷ rest)))
-    → (r .kind ≡ 1 → ⊥) → 2 ≤ length (unjoined before)
+    → (r .kind ≡ leafKind → ⊥) → 2 ≤ length (unjoined before)
 two-unjoined before r rest p e =
     let records : List StreamRecord = before ++ (r ∷ rest) in
     let q = tests-at treeTests [] before r rest (passes-left (atEach treeTests [] records) (treeEndTests records) p) in
-    leb-true 2 (length (unjoined before)) (rw (ne-eqb (r .kind) 1 e) at (q .1 .1 .1 .0))
+    leb-true 2 (length (unjoined before)) (rw (ne-eqb (r .kind) leafKind e) at (q .1 .1 .1 .0))

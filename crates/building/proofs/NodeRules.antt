@@ -20,6 +20,7 @@ use Rattle.laws.specs.StreamCauses.{TreeKind}
 use Rattle.stream.specs.Positions.{NextRule, after, isRuleFor, recordAt}
 use Rattle.stream.proofs.Positions.{number-byte, records-here, whole-inside}
 use Rattle.building.specs.Batch.{Record, Set}
+use Rattle.building.specs.Kinds.{branchRuleKind, leafKind, leafRuleKind, ruleAbove}
 use Rattle.building.specs.RuleOrder.{BranchRuleFor, LeafRuleFor}
 use Rattle.building.specs.Standing.{AtRule, Constants, State, atNode, laterRecords, noSlots}
 use Rattle.building.proofs.ReadInput.{arity-is, headRecord, query-passes, rules-are, states-are, whole-later}
@@ -39,7 +40,7 @@ no-rule kind label r k no-one (e, l) =
 
 -- a leaf's rule that stands at the position of the next rule: its bytes, and that its numbers are in range
 pub record LeafRuleAt (input : List ℕ) (t : State) (label : ℕ) : Type 0 where
-  pub kind : getD input (t .rule) 0 ≡ 17
+  pub kind : getD input (t .rule) 0 ≡ leafRuleKind
   pub inside : t .rule + 4 ≤ length input
   pub behind : after input (t .rule) ≡ t .rule + 4
   pub flag-byte : number (recordAt input (t .rule)) 1 ≡ getD input (t .rule + 2) 0
@@ -50,7 +51,7 @@ pub record LeafRuleAt (input : List ℕ) (t : State) (label : ℕ) : Type 0 wher
 
 -- a branch's
 pub record BranchRuleAt (input : List ℕ) (t : State) (label : ℕ) : Type 0 where
-  pub kind : getD input (t .rule) 0 ≡ 18
+  pub kind : getD input (t .rule) 0 ≡ branchRuleKind
   pub inside : t .rule + 6 ≤ length input
   pub behind : after input (t .rule) ≡ t .rule + 6
   pub flag-byte : number (recordAt input (t .rule)) 1 ≡ getD input (t .rule + 2) 0
@@ -65,35 +66,35 @@ pub record BranchRuleAt (input : List ℕ) (t : State) (label : ℕ) : Type 0 wh
 
 -- ---- rules at a node
 module _ (Q : Query) (r : StreamRecord) (n : ℕ) (stack : List (Slots Set)) where
-  leaf-rules : r .kind ≡ 1 → (rules : List Rule) (z : List Record × Slots Set)
+  leaf-rules : r .kind ≡ leafKind → (rules : List Rule) (z : List Record × Slots Set)
       → atNode Q r n stack rules z ≡ through (leafStep recordSets (number r 0) n) z rules
-  leaf-rules e rules z = rw (eq-eqb (r .kind) 1 e) refl
+  leaf-rules e rules z = rw (eq-eqb (r .kind) leafKind e) refl
 
-  branch-rules : (r .kind ≡ 1 → ⊥) → (rules : List Rule) (z : List Record × Slots Set)
+  branch-rules : (r .kind ≡ leafKind → ⊥) → (rules : List Rule) (z : List Record × Slots Set)
       → atNode Q r n stack rules z
       ≡ through (branchStep recordSets n (getD stack 1 noSlots) (getD stack 0 noSlots)) z (splits (Q .arity) rules (number r 0))
-  branch-rules e rules z = rw (ne-eqb (r .kind) 1 e) refl
+  branch-rules e rules z = rw (ne-eqb (r .kind) leafKind e) refl
 
   -- records that are no rules for the node change nothing
   rules-skipped : TreeKind (r .kind) → (z : List Record × Slots Set) (skipped rs : List StreamRecord)
-      → ((x : StreamRecord) → x ∈ skipped → isRuleFor (r .kind + 16) (number r 0) x ≡ false)
+      → ((x : StreamRecord) → x ∈ skipped → isRuleFor (r .kind + ruleAbove) (number r 0) x ≡ false)
       → atNode Q r n stack (rulesOf (skipped ++ rs)) z ≡ atNode Q r n stack (rulesOf rs) z
   rules-skipped (inl e) z skipped rs others =
-      let kind : r .kind + 16 ≡ 17 = omega arith in
+      let kind : r .kind + ruleAbove ≡ leafRuleKind = omega arith in
       leaf-rules e (rulesOf (skipped ++ rs)) z
       ∙ leaf-skips recordSets (number r 0) n z skipped rs
-      (λ x m h. no-rule 17 (number r 0) x refl (ap (λ k. isRuleFor k (number r 0) x) (sym kind) ∙ others x m) h)
+      (λ x m h. no-rule leafRuleKind (number r 0) x refl (ap (λ k. isRuleFor k (number r 0) x) (sym kind) ∙ others x m) h)
       ∙ sym (leaf-rules e (rulesOf rs) z)
   rules-skipped (inr e) z skipped rs others =
-      let kind : r .kind + 16 ≡ 18 = omega arith in
-      let branch : r .kind ≡ 1 → ⊥ = λ one. omega arith in
+      let kind : r .kind + ruleAbove ≡ branchRuleKind = omega arith in
+      let branch : r .kind ≡ leafKind → ⊥ = λ one. omega arith in
       branch-rules branch (rulesOf (skipped ++ rs)) z
       ∙ branch-skips recordSets (Q .arity) (number r 0) n (getD stack 1 noSlots) (getD stack 0 noSlots) z skipped rs
-      (λ x m h. no-rule 18 (number r 0) x refl (ap (λ k. isRuleFor k (number r 0) x) (sym kind) ∙ others x m) h)
+      (λ x m h. no-rule branchRuleKind (number r 0) x refl (ap (λ k. isRuleFor k (number r 0) x) (sym kind) ∙ others x m) h)
       ∙ sym (branch-rules branch (rulesOf rs) z)
 
   -- a leaf rule goes first
-  pub leaf-first : r .kind ≡ 1 → (rule : StreamRecord) (rs : List StreamRecord) → LeafRuleFor (number r 0) rule
+  pub leaf-first : r .kind ≡ leafKind → (rule : StreamRecord) (rs : List StreamRecord) → LeafRuleFor (number r 0) rule
       → (z z′ : List Record × Slots Set)
       → leafStep recordSets (number r 0) n z (leafRule (number r 0) (number rule 1) (number rule 2)) ≡ z′
       → atNode Q r n stack (rulesOf rs) z′ ≡ atNode Q r n stack (rulesOf (rule ∷ rs)) z
@@ -104,7 +105,7 @@ module _ (Q : Query) (r : StreamRecord) (n : ℕ) (stack : List (Slots Set)) whe
       ∙ sym (leaf-rules e (rulesOf (rule ∷ rs)) z)
 
   -- a branch rule goes through its splits first
-  pub branch-first : (r .kind ≡ 1 → ⊥) → (rule : StreamRecord) (rs : List StreamRecord) → BranchRuleFor (number r 0) rule
+  pub branch-first : (r .kind ≡ leafKind → ⊥) → (rule : StreamRecord) (rs : List StreamRecord) → BranchRuleFor (number r 0) rule
       → (z z′ : List Record × Slots Set)
       → through (branchStep recordSets n (getD stack 1 noSlots) (getD stack 0 noSlots)) z
       (splitsBy (Q .arity) (number r 0) (branchRule (number r 0) (number rule 1) (number rule 2) (number rule 3) (number rule 4))) ≡ z′
@@ -121,10 +122,10 @@ module _ (Q : Query) (r : StreamRecord) (n : ℕ) (stack : List (Slots Set)) whe
 -- ---- the rule at hand
 module _ (input : List ℕ) (t : State) (k : Constants input t) (here : StreamRecord) (earlier : List Record) (stack : List (Slots Set))
     (z : List Record × Slots Set) (a : AtRule input (t .node) (t .rule) here earlier stack z) (h : t .rule < length input) where
-  rule-here : (recordAt input (t .rule) .kind ≡ here .kind + 16) × (number (recordAt input (t .rule)) 0 ≡ number here 0)
-  rule-here = rule-is (here .kind + 16) (number here 0) (recordAt input (t .rule)) (⊎-elim (λ e. absurd (omega arith)) (λ w. w .1) (a .found))
+  rule-here : (recordAt input (t .rule) .kind ≡ here .kind + ruleAbove) × (number (recordAt input (t .rule)) 0 ≡ number here 0)
+  rule-here = rule-is (here .kind + ruleAbove) (number here 0) (recordAt input (t .rule)) (⊎-elim (λ e. absurd (omega arith)) (λ w. w .1) (a .found))
 
-  rule-kind : getD input (t .rule) 0 ≡ here .kind + 16
+  rule-kind : getD input (t .rule) 0 ≡ here .kind + ruleAbove
   rule-kind = rule-here .0
 
   -- it comes first of the records from it on
@@ -150,7 +151,7 @@ module _ (input : List ℕ) (t : State) (k : Constants input t) (here : StreamRe
   states-here = sym (k .states ∙ states-are input (k .query))
 
   -- a leaf's rule
-  pub leaf-rule-at : here .kind ≡ 1 → LeafRuleAt input t (number here 0)
+  pub leaf-rule-at : here .kind ≡ leafKind → LeafRuleAt input t (number here 0)
   leaf-rule-at e = record {
     kind = kind;
     inside = omega (arith, rule-inside, length-is);
@@ -165,14 +166,14 @@ module _ (input : List ℕ) (t : State) (k : Constants input t) (here : StreamRe
       R : StreamRecord
       R = recordAt input (t .rule)
 
-      kind : getD input (t .rule) 0 ≡ 17
+      kind : getD input (t .rule) 0 ≡ leafRuleKind
       kind = omega (arith, rule-kind)
 
       length-is : bodyLength (getD input (t .rule) 0) ≡ 3
       length-is = ap bodyLength kind
 
       byte : (i j : ℕ) → i < 3 → t .rule + 1 + i ≡ j → number (recordAt input (t .rule)) i ≡ getD input j 0
-      byte i j = number-byte input (t .rule) 17 i j kind
+      byte i j = number-byte input (t .rule) leafRuleKind i j kind
 
       flag-byte : number (recordAt input (t .rule)) 1 ≡ getD input (t .rule + 2) 0
       flag-byte = byte 1 (t .rule + 2) (omega arith) (omega arith)
@@ -203,14 +204,14 @@ module _ (input : List ℕ) (t : State) (k : Constants input t) (here : StreamRe
       R : StreamRecord
       R = recordAt input (t .rule)
 
-      kind : getD input (t .rule) 0 ≡ 18
+      kind : getD input (t .rule) 0 ≡ branchRuleKind
       kind = omega (arith, rule-kind)
 
       length-is : bodyLength (getD input (t .rule) 0) ≡ 5
       length-is = ap bodyLength kind
 
       byte : (i j : ℕ) → i < 5 → t .rule + 1 + i ≡ j → number (recordAt input (t .rule)) i ≡ getD input j 0
-      byte i j = number-byte input (t .rule) 18 i j kind
+      byte i j = number-byte input (t .rule) branchRuleKind i j kind
 
       flag-byte : number (recordAt input (t .rule)) 1 ≡ getD input (t .rule + 2) 0
       flag-byte = byte 1 (t .rule + 2) (omega arith) (omega arith)
@@ -229,7 +230,7 @@ module _ (input : List ℕ) (t : State) (k : Constants input t) (here : StreamRe
       numbers = branch-numbers (headRecord input) (a .passed) R (recordsOf (drop (after input (t .rule)) input)) passes-here kind
 
   -- ---- the next rule
-  module _ (next : ℕ) (s : NextRule input (after input (t .rule)) (here .kind + 16) (number here 0) next) where
+  module _ (next : ℕ) (s : NextRule input (after input (t .rule)) (here .kind + ruleAbove) (number here 0) next) where
     all-later : laterRecords input ≡ (a .passed ++ (recordAt input (t .rule) ∷ s .skipped)) ++ recordsOf (drop next input)
     all-later =
         later-here ∙ ap (λ rs. a .passed ++ (recordAt input (t .rule) ∷ rs)) (s .records)
@@ -260,7 +261,7 @@ module _ (input : List ℕ) (t : State) (k : Constants input t) (here : StreamRe
 -- ---- the first rule of a node, of all records behind the head
 pub first-rule : (input : List ℕ) (t : State) → Constants input t
     → (node : ℕ) (here : StreamRecord) (earlier : List Record) (stack : List (Slots Set)) → TreeKind (here .kind)
-    → (next : ℕ) → NextRule input (t .rules) (here .kind + 16) (number here 0) next
+    → (next : ℕ) → NextRule input (t .rules) (here .kind + ruleAbove) (number here 0) next
     → AtRule input node next here earlier stack (earlier, noSlots)
 first-rule input t k node here earlier stack kind next s = record {
   passed = s .skipped;

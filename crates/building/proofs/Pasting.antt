@@ -10,6 +10,7 @@ use borrow.Author.Tests.{ltb-false, ltb-true}
 use lib.Dec.{ltb}
 use lib.ListN.{drop, getD, getD-replicate, length, length-drop, length-replicate, replicate, set}
 use lib.Seq.{ext-getD, getD-drop, length-paste, paste, paste-suc}
+use Rattle.building.specs.Bounds.{slotSets}
 use Rattle.building.specs.Slots.{slotAt}
 use Rattle.building.proofs.Frames.{paste-after, paste-before, paste-within}
 
@@ -51,7 +52,7 @@ paste-low work new base size bound fits enough before within i h = go (ltb i bas
     go true e =
         omega (
           arith,
-          ap (λ x. x % 65536) (paste-before work new base size fits enough i (ltb-true i base e)),
+          ap (λ x. x % slotSets) (paste-before work new base size fits enough i (ltb-true i base e)),
           before i (ltb-true i base e),
         )
     go false e =
@@ -61,7 +62,7 @@ paste-low work new base size bound fits enough before within i h = go (ltb i bas
         omega (
           arith,
           ap (slotAt (paste work base new size)) there,
-          ap (λ x. x % 65536) (paste-within work new base size fits enough j small),
+          ap (λ x. x % slotSets) (paste-within work new base size fits enough j small),
           within j small,
         )
 

@@ -18,7 +18,9 @@ use Rattle.laws.specs.StreamCauses.{TreeKind}
 use Rattle.stream.specs.Positions.{recordAt}
 use Rattle.stream.proofs.Positions.{number-byte, whole-inside}
 use Rattle.stream.proofs.TreeSteps.{grow-few, unjoined-nodes}
+use Rattle.building.specs.Bounds.{mostNodes, mostPlaces, mostStates}
 use Rattle.building.specs.Frames.{width}
+use Rattle.building.specs.Kinds.{leafKind}
 use Rattle.building.specs.Standing.{AtNode, Constants, State}
 use Rattle.building.proofs.Frames.{top-fits}
 use Rattle.building.proofs.NodeOrder.{stack-high, tests-at, two-unjoined}
@@ -73,8 +75,8 @@ module _ (input : List ℕ) (t : State) (k : Constants input t) (n : AtNode inpu
       sym (ap (λ (r : StreamRecord). number r 0) (sym stands-here)
       ∙ number-byte input (t .at) (getD input (t .at) 0) 0 (t .at + 1) refl (omega (arith, body-here)) (omega arith))
 
-  pub few-nodes : t .node < 4095
-  few-nodes = omega (arith, n .number, ltb-true (length (n .before)) 4095 (tests-here .0))
+  pub few-nodes : t .node < mostNodes
+  few-nodes = omega (arith, n .number, ltb-true (length (n .before)) mostNodes (tests-here .0))
 
   -- it is one of the nodes
   pub node-of : nodesIn input ≡ suc (t .node + length (n .behind))
@@ -94,13 +96,13 @@ module _ (input : List ℕ) (t : State) (k : Constants input t) (n : AtNode inpu
       (top-fits (queryIn input) (n .before) (n .here ∷ n .behind) (t .top) (t .asked) high (omega (arith, k .asked, ap work (n .records))))
 
   -- a branch has two subtrees to join
-  pub two-frames : (n .here .kind ≡ 1 → ⊥) → 2 ≤ t .top
+  pub two-frames : (n .here .kind ≡ leafKind → ⊥) → 2 ≤ t .top
   two-frames e = omega (arith, high, two-unjoined (n .before) (n .here) (n .behind) tests e)
 
-  pub small-arity-here : t .arity ≤ 4
+  pub small-arity-here : t .arity ≤ mostPlaces
   small-arity-here = omega (arith, k .arity, small-arity input (k .query) .1)
 
-  pub few-states-here : t .states ≤ 16
+  pub few-states-here : t .states ≤ mostStates
   few-states-here = omega (arith, k .states, few-states input (k .query) .1)
 
 -- ---- what the code asks
@@ -108,10 +110,10 @@ pub record NodeReady (input : List ℕ) (t : State) (work : List ℕ) : Type 0 w
   pub bytes : t .at + 2 ≤ length input
   pub kind : getD input (t .at) 0 ≤ 2
   pub body : bodyLength (getD input (t .at) 0) ≡ 1
-  pub arity : t .arity ≤ 4
-  pub states : t .states ≤ 16
-  pub frames : t .top < 4095
-  pub nodes : t .node < 4095
+  pub arity : t .arity ≤ mostPlaces
+  pub states : t .states ≤ mostStates
+  pub frames : t .top < mostNodes
+  pub nodes : t .node < mostNodes
   pub frame : t .top * width (t .arity) (t .states) + width (t .arity) (t .states) ≤ length work
 
 pub node-ready : (input : List ℕ) (t : State) (work : List ℕ) → Constants input t → AtNode input (t .node) (t .at) (t .top)

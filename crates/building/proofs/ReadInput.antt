@@ -15,6 +15,7 @@ use Rattle.laws.proofs.Replies.{Passes, answered, passes-left}
 use Rattle.stream.specs.Positions.{recordAt}
 use Rattle.stream.specs.Reading.{queryFacts, queryReply, treeFacts, treeReply}
 use Rattle.stream.proofs.AfterTree.{query-after-tree, records-read, reply-after-tree, whole-read}
+use Rattle.building.specs.Bounds.{mostPlaces, mostStates}
 use Rattle.building.specs.Standing.{laterRecords}
 
 -- the head of the query
@@ -57,12 +58,12 @@ module _ (input : List ℕ) (query : queryReply input (2 * nodesIn input) ≡ an
   pub accepting-are : queryIn input .accepting ≡ acceptingOf (laterRecords input)
   accepting-are = ap (λ (rs : List StreamRecord). queryOf rs .accepting) query-records
 
-  pub small-arity : (1 ≤ queryIn input .arity) × (queryIn input .arity ≤ 4)
+  pub small-arity : (1 ≤ queryIn input .arity) × (queryIn input .arity ≤ mostPlaces)
   small-arity =
       let (a, b) = both-true (leb 1 (number (headRecord input) 0)) (leb (number (headRecord input) 0) 4) (head-passes .1 .1 .0) in
       (omega (arith, arity-is, leb-true 1 (number (headRecord input) 0) a), omega (arith, arity-is, leb-true (number (headRecord input) 0) 4 b))
 
-  pub few-states : (1 ≤ queryIn input .states) × (queryIn input .states ≤ 16)
+  pub few-states : (1 ≤ queryIn input .states) × (queryIn input .states ≤ mostStates)
   few-states =
       let (a, b) = both-true (leb 1 (number (headRecord input) 1)) (leb (number (headRecord input) 1) 16) (head-passes .1 .1 .1 .0) in
       (omega (arith, states-are, leb-true 1 (number (headRecord input) 1) a), omega (arith, states-are, leb-true (number (headRecord input) 1) 16 b))

@@ -9,10 +9,11 @@ use lib.ListN.{drop, length}
 use Rattle.paper.specs.Stream.{recordsOf}
 use Rattle.stream.specs.Positions.{NextRule}
 use Rattle.building.specs.Batch.{Record, recordsIn}
+use Rattle.building.specs.Bounds.{batchRecords, ruleRecords}
 use Rattle.building.specs.Standing.{Filling, Standing, State, Stepped}
 use Rattle.building.specs.States.{counted, more}
 use Rattle.building.proofs.Limits.{rules-counted}
-use Rattle.building.proofs.OwnRow.{Onward}
+use Rattle.building.proofs.OwnShelf.{Onward}
 
 -- the search for the next rule goes on behind the present one, wherever that is
 pub searched-from : {input : List ℕ} {from behind kind label next : ℕ} → from ≡ behind → NextRule input from kind label next
@@ -22,16 +23,16 @@ searched-from {input} {kind = kind} {label} {next} e found = subst (λ x. NextRu
 -- some rules are done, or none yet
 pub record Ran (input : List ℕ) (t : State) (work : List ℕ) (base : List Record) (count rule : ℕ) (work′ batch′ : List ℕ) : Type 0 where
   pub standing : Standing input (more t count rule) work′ (base ++ recordsIn count batch′)
-  pub few : count ≤ 648
+  pub few : count ≤ batchRecords
   rest : drop (t .asked) work′ ≡ drop (t .asked) work
   fewer : ((count ≡ t .count) × (rule ≡ t .rule)) ⊎ (length (recordsOf (drop rule input)) < length (recordsOf (drop (t .rule) input)))
 
-module _ (input : List ℕ) (t : State) (work batch : List ℕ) (base : List Record) (f : Filling input t work batch base) (few : t .count ≤ 324) where
+module _ (input : List ℕ) (t : State) (work batch : List ℕ) (base : List Record) (f : Filling input t work batch base) (few : t .count ≤ ruleRecords) where
   pub ran-starts : Ran input t work base (t .count) (t .rule) work batch
   ran-starts = record { standing = f .standing; few = omega arith; rest = refl; fewer = inl (refl, refl) }
 
   module _ {count rule : ℕ} {work′ batch′ : List ℕ} (r : Ran input t work base count rule work′ batch′) where
-    pub ran-onward : count ≤ 324 → {count″ next : ℕ} {work″ batch″ : List ℕ}
+    pub ran-onward : count ≤ ruleRecords → {count″ next : ℕ} {work″ batch″ : List ℕ}
         → Onward input (more t count rule) work′ base count″ next work″ batch″ → Ran input t work base count″ next work″ batch″
     ran-onward room {next = next} o = record {
       standing = o .standing;
@@ -40,7 +41,7 @@ module _ (input : List ℕ) (t : State) (work batch : List ℕ) (base : List Rec
       fewer = inr (⊎-elim (λ w. omega (arith, o .fewer, ap (λ x. length (recordsOf (drop x input))) (w .1))) (λ l. omega (arith, o .fewer)) (r .fewer));
     }
 
-    pub ran-ends : t .rule < length input → (324 < count) ⊎ (length input ≤ rule) → {s : State} → s ≡ counted t count rule
+    pub ran-ends : t .rule < length input → (ruleRecords < count) ⊎ (length input ≤ rule) → {s : State} → s ≡ counted t count rule
         → Stepped input t work base s work′ batch′
     ran-ends h ended e =
         subst (λ x. Stepped input t work base x work′ batch′) (sym e)

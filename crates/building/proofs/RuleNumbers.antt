@@ -15,6 +15,7 @@ use Rattle.paper.specs.Refusals.{atEach, headTests, laterTests, queryEndTests, 
 use Rattle.paper.specs.Stream.{StreamRecord, bodyLength, number}
 use Rattle.laws.proofs.Lists.{both-true}
 use Rattle.laws.proofs.Replies.{Passes, passes-left, passes-right}
+use Rattle.building.specs.Kinds.{branchRuleKind, leafRuleKind}
 use Rattle.building.proofs.NodeOrder.{tests-at}
 
 -- numbers that are all below a bound
@@ -47,13 +48,13 @@ module _ (head : StreamRecord) (before : List StreamRecord) (r : StreamRecord) (
       rw getD-drop at (all-below (number head 1) (drop 2 (r .body)) (ranges e .1) i (omega (arith, length-drop 2 (r .body), is-whole)))
 
   -- a leaf rule
-  pub leaf-numbers : r .kind ≡ 17 → (number r 1 < 2 ^ number head 0) × (number r 2 < number head 1)
+  pub leaf-numbers : r .kind ≡ leafRuleKind → (number r 1 < 2 ^ number head 0) × (number r 2 < number head 1)
   leaf-numbers e =
       let rule : isRuleKind (r .kind) ≡ true = ap isRuleKind e in
       (ltb-true (number r 1) (2 ^ number head 0) (ranges rule .0), state-below rule 0 (rw e (omega arith)))
 
   -- a branch rule
-  pub branch-numbers : r .kind ≡ 18
+  pub branch-numbers : r .kind ≡ branchRuleKind
       → (number r 1 < 2 ^ number head 0) × (number r 2 < number head 1) × (number r 3 < number head 1) × (number r 4 < number head 1)
   branch-numbers e =
       let rule : isRuleKind (r .kind) ≡ true = ap isRuleKind e in (

@@ -11,6 +11,7 @@ use Rattle.paper.specs.Lists.{_∈_, through}
 use Rattle.paper.specs.Query.{branchRule, leafRule, rulesOf}
 use Rattle.paper.specs.Stream.{StreamRecord, number}
 use Rattle.laws.proofs.Lists.{here, through-append}
+use Rattle.building.specs.Kinds.{branchRuleKind, leafRuleKind}
 use Rattle.building.specs.RuleOrder.{BranchRuleFor, LeafRuleFor, leafBy, splitsFor}
 
 -- ---- a leaf
@@ -18,15 +19,15 @@ module _ {S E : Type 0} (A : Sets S E) (label n : ℕ) where
   -- a record that is no leaf rule with this label changes nothing
   pub leaf-skip : (z : S × Slots E) (r : StreamRecord) (rs : List StreamRecord) → (LeafRuleFor label r → ⊥)
       → through (leafStep A label n) z (rulesOf (r ∷ rs)) ≡ through (leafStep A label n) z (rulesOf rs)
-  leaf-skip z r rs other = go (eqb (r .kind) 17) (eqb (r .kind) 18) refl
+  leaf-skip z r rs other = go (eqb (r .kind) leafRuleKind) (eqb (r .kind) branchRuleKind) refl
     where
-      go : (c d : Bool) → eqb (r .kind) 17 ≡ c
+      go : (c d : Bool) → eqb (r .kind) leafRuleKind ≡ c
           → through (leafStep A label n) z (cond (c || d) (cond c (leafRule (number r 0) (number r 1) (number r 2))
           (branchRule (number r 0) (number r 1) (number r 2) (number r 3) (number r 4)) ∷ rulesOf rs) (rulesOf rs))
           ≡ through (leafStep A label n) z (rulesOf rs)
       go true d e =
           ap (λ (c : Bool). through (leafStep A label n) (cond {A = S × Slots E} c (leafBy A n r z) z) (rulesOf rs))
-          (ne-eqb label (number r 0) (λ w. other (eqb-true (r .kind) 17 e, sym w)))
+          (ne-eqb label (number r 0) (λ w. other (eqb-true (r .kind) leafRuleKind e, sym w)))
       go false true e = refl
       go false false e = refl
 
@@ -39,21 +40,21 @@ module _ {S E : Type 0} (A : Sets S E) (label n : ℕ) where
   -- a leaf rule with this label puts the single in its slot
   pub leaf-here : (z : S × Slots E) (r : StreamRecord) (rs : List StreamRecord) → LeafRuleFor label r
       → through (leafStep A label n) z (rulesOf (r ∷ rs)) ≡ through (leafStep A label n) (leafBy A n r z) (rulesOf rs)
-  leaf-here z r rs h = rw (eq-eqb (r .kind) 17 (h .0), eq-eqb label (number r 0) (sym (h .1)))
+  leaf-here z r rs h = rw (eq-eqb (r .kind) leafRuleKind (h .0), eq-eqb label (number r 0) (sym (h .1)))
 
 -- ---- a branch
 module _ (arity label : ℕ) where
   -- a record that is no branch rule with this label adds no split
   splits-skip : (r : StreamRecord) (rs : List StreamRecord) → (BranchRuleFor label r → ⊥)
       → splits arity (rulesOf (r ∷ rs)) label ≡ splits arity (rulesOf rs) label
-  splits-skip r rs other = go (eqb (r .kind) 17) (eqb (r .kind) 18) refl
+  splits-skip r rs other = go (eqb (r .kind) leafRuleKind) (eqb (r .kind) branchRuleKind) refl
     where
-      go : (c d : Bool) → eqb (r .kind) 18 ≡ d
+      go : (c d : Bool) → eqb (r .kind) branchRuleKind ≡ d
           → splits arity (cond (c || d) (cond c (leafRule (number r 0) (number r 1) (number r 2))
           (branchRule (number r 0) (number r 1) (number r 2) (number r 3) (number r 4)) ∷ rulesOf rs) (rulesOf rs)) label
           ≡ splits arity (rulesOf rs) label
       go true d e = refl
-      go false true e = rw (ne-eqb label (number r 0) (λ w. other (eqb-true (r .kind) 18 e, sym w)))
+      go false true e = rw (ne-eqb label (number r 0) (λ w. other (eqb-true (r .kind) branchRuleKind e, sym w)))
       go false false e = refl
 
   -- a branch rule with this label has its splits first

@@ -1,5 +1,5 @@
--- The splits of a rule done in the numbers: the flags of a loop that has come so far, rows of work, and then the runs: no split, one,
--- one that is skipped, and one list of flags after the other. The idea: the rule writes its own row alone, so that the children's rows,
+-- The splits of a rule done in the numbers: the flags of a loop that has come so far, shelves of work, and then the runs: no split, one,
+-- one that is skipped, and one list of flags after the other. The idea: the rule writes its own shelf alone, so that the children's shelves,
 -- which stand before it, are the same for every split. B and W are the batch and the work, a prime is afterwards.
 use mathlib.Core.Bool.{Bool, _&&_, _||_, cond, false, true}
 use mathlib.Core.List.{List, [], _∷_, _++_, append-assoc, append-nil}
@@ -16,8 +16,9 @@ use Rattle.paper.specs.Lists.{each, through, upTo}
 use Rattle.paper.specs.Sound.{apart}
 use Rattle.laws.proofs.Lists.{each-none, or-right, through-upTo}
 use Rattle.building.specs.Batch.{Record, Set, empty, recordsIn, setIn}
-use Rattle.building.specs.Rules.{Branch, Low, OneRow, OneSlot, Row, Runs, Stands, Unites, flagsAt, pairAt, splitAt, splitsRun}
-use Rattle.building.specs.Slots.{Marked, rowAt, slotAt}
+use Rattle.building.specs.Bounds.{slotSets}
+use Rattle.building.specs.Rules.{Branch, Low, OneShelf, OneSlot, Runs, Shelf, Stands, Unites, flagsAt, pairAt, splitAt, splitsRun}
+use Rattle.building.specs.Slots.{Marked, shelfAt, slotAt}
 use Rattle.building.proofs.Slots.{marked-put, marked-same}
 
 -- ---- lists for each number of a loop
@@ -67,15 +68,15 @@ module _ (own b₁ n : ℕ) where
   flags-none f =
       ap (λ c. each (upTo n) (λ b₂. cond (c && apart (own + b₁) b₂) ((b₁, b₂) ∷ []) [])) (ne-eqb (bitAnd own b₁) 0 f) ∙ each-none (upTo n)
 
--- ---- rows of work
--- a row before the one that is written stays
-module _ {to size used most k : ℕ} {W : List ℕ} {count : ℕ} {W′ : List ℕ} (o : OneRow to size used most k W count W′) (from : ℕ)
+-- ---- shelves of work
+-- a shelf before the one that is written stays
+module _ {to size used most k : ℕ} {W : List ℕ} {count : ℕ} {W′ : List ℕ} (o : OneShelf to size used most k W count W′) (from : ℕ)
     (before : from + size ≤ to) where
   pub same-set : (b : ℕ) → b < size → slotAt W′ (from + b) ≡ slotAt W (from + b)
-  same-set b l = ap (λ x. x % 65536) (o .below (from + b) (omega arith))
+  same-set b l = ap (λ x. x % slotSets) (o .below (from + b) (omega arith))
 
-  pub row-stays : (slots : Slots Set) (q : ℕ) → Row slots q size W from → Row slots q size W′ from
-  row-stays slots q r b l = r b l ∙ ap setIn (sym (same-set b l))
+  pub shelf-stays : (slots : Slots Set) (q : ℕ) → Shelf slots q size W from → Shelf slots q size W′ from
+  shelf-stays slots q r b l = r b l ∙ ap setIn (sym (same-set b l))
 
   pub low-stays : Low (used + k + 1) size W from → Low (used + count + 1) size W′ from
   low-stays r b l = omega (arith, r b l, same-set b l, o .more)
@@ -83,21 +84,21 @@ module _ {to size used most k : ℕ} {W : List ℕ} {count : ℕ} {W′ : List �
   pub marked-stays : 0 < size → Marked size W from → Marked size W′ from
   marked-stays some = marked-same size W W′ from from some (λ b l. o .below (from + b) (omega arith))
 
--- ---- one slot of a row
+-- ---- one slot of a shelf
 module _ {to flag most used k : ℕ} {W : List ℕ} {count : ℕ} {W′ : List ℕ} (o : OneSlot to flag most used k W count W′) where
   other-stays : (b : ℕ) → eqb flag b ≡ false → slotAt W′ (to + b) ≡ slotAt W (to + b)
   other-stays b e = o .puts .others (to + b) (λ w. eqb-false flag b e (omega arith))
 
-  -- a set put into its slot stands in the row
-  pub row-put : (size t : ℕ) (slots : Slots Set) → Row slots t size W to → Row (put slots t flag (rowAt W′ to flag)) t size W′ to
-  row-put size t slots r b l = rw (eq-eqb t t refl) (go (eqb flag b) refl)
+  -- a set put into its slot stands in the shelf
+  pub shelf-put : (size t : ℕ) (slots : Slots Set) → Shelf slots t size W to → Shelf (put slots t flag (shelfAt W′ to flag)) t size W′ to
+  shelf-put size t slots r b l = rw (eq-eqb t t refl) (go (eqb flag b) refl)
     where
-      go : (c : Bool) → eqb flag b ≡ c → cond c (rowAt W′ to flag) (slots t b) ≡ rowAt W′ to b
-      go true e = ap (rowAt W′ to) (eqb-true flag b e)
+      go : (c : Bool) → eqb flag b ≡ c → cond c (shelfAt W′ to flag) (slots t b) ≡ shelfAt W′ to b
+      go true e = ap (shelfAt W′ to) (eqb-true flag b e)
       go false e = r b l ∙ ap setIn (sym (other-stays b e))
 
-  pub slot-row : (size : ℕ) → flag < size → Low (used + k + 1) size W to → OneRow to size used most k W count W′
-  slot-row size h low = record {
+  pub slot-shelf : (size : ℕ) → flag < size → Low (used + k + 1) size W to → OneShelf to size used most k W count W′
+  slot-shelf size h low = record {
     more = o .more;
     few = o .few;
     below = λ i l. o .puts .apart i (λ e. omega arith) (λ e. omega arith);
@@ -164,13 +165,13 @@ module _ (rule : Branch) (p q t : ℕ) (lefts rights : Slots Set) where
 module _ {rule : Branch} where
   -- where nothing is done
   idle : (flags : List (ℕ × ℕ)) (k : ℕ) (B W : List ℕ) → Low (rule .used + k + 1) (rule .size) W (rule .to)
-      → ((p q t : ℕ) (lefts rights : Slots Set) (z : List Record × Slots Set) → Row lefts p (rule .size) W (rule .left)
-      → Row rights q (rule .size) W (rule .right) → splitsRun rule p q t lefts rights flags z ≡ z)
+      → ((p q t : ℕ) (lefts rights : Slots Set) (z : List Record × Slots Set) → Shelf lefts p (rule .size) W (rule .left)
+      → Shelf rights q (rule .size) W (rule .right) → splitsRun rule p q t lefts rights flags z ≡ z)
       → Runs flags rule k B W k B W
   idle flags k B W low same =
       record {
         runs = λ base p q t lefts rights z e rl rr st. subst (λ y. Stands base t rule y k B W) (sym (same p q t lefts rights z rl rr)) st;
-        row = record { more = omega arith; few = omega arith; below = λ i l. refl; above = λ i l. refl; low = low; marked = λ m. m };
+        shelf = record { more = omega arith; few = omega arith; below = λ i l. refl; above = λ i l. refl; low = low; marked = λ m. m };
       }
 
   -- flags after flags
@@ -182,15 +183,15 @@ module _ {rule : Branch} where
         runs = λ base p q t lefts rights z e rl rr st.
             subst (λ y. Stands base t rule y c′ B₂ W₂) (sym (run-append rule p q t lefts rights xs ys z))
             (n .runs base p q t lefts rights (splitsRun rule p q t lefts rights xs z) e
-            (row-stays (m .row) (rule .left) hl lefts p rl) (row-stays (m .row) (rule .right) hr rights q rr)
+            (shelf-stays (m .shelf) (rule .left) hl lefts p rl) (shelf-stays (m .shelf) (rule .right) hr rights q rr)
             (m .runs base p q t lefts rights z e rl rr st));
-        row = record {
-          more = omega (arith, m .row .more, n .row .more);
-          few = omega (arith, m .row .few, n .row .few, length-append xs ys);
-          below = λ i l. n .row .below i l ∙ m .row .below i l;
-          above = λ i l. n .row .above i l ∙ m .row .above i l;
-          low = n .row .low;
-          marked = λ w. n .row .marked (m .row .marked w);
+        shelf = record {
+          more = omega (arith, m .shelf .more, n .shelf .more);
+          few = omega (arith, m .shelf .few, n .shelf .few, length-append xs ys);
+          below = λ i l. n .shelf .below i l ∙ m .shelf .below i l;
+          above = λ i l. n .shelf .above i l ∙ m .shelf .above i l;
+          low = n .shelf .low;
+          marked = λ w. n .shelf .marked (m .shelf .marked w);
         };
       }
 
@@ -214,14 +215,14 @@ module _ {rule : Branch} where
         → slotAt W (rule .left + b₁) ≡ l → slotAt W (rule .right + b₂) ≡ r → (l ≡ 0 → ⊥) → (r ≡ 0 → ⊥)
         → Unites rule b₁ b₂ l r k B W c B′ W′ → Runs ((b₁, b₂) ∷ []) rule k B W c B′ W′
     one-run b₁ b₂ l r c B′ W′ h₁ h₂ hf el er nl nr u =
-        record { runs = runs; row = slot-row (u .slot) (rule .size) hf low }
+        record { runs = runs; shelf = slot-shelf (u .slot) (rule .size) hf low }
       where
         runs : (base : List Record) (p q t : ℕ) (lefts rights : Slots Set) (z : List Record × Slots Set) → length base ≡ rule .used
-            → Row lefts p (rule .size) W (rule .left) → Row rights q (rule .size) W (rule .right) → Stands base t rule z k B W
+            → Shelf lefts p (rule .size) W (rule .left) → Shelf rights q (rule .size) W (rule .right) → Stands base t rule z k B W
             → Stands base t rule (step rule p q t lefts rights z (b₁, b₂)) c B′ W′
         runs base p q t lefts rights z e rl rr st =
             subst (λ y. Stands base t rule y c B′ W′) (sym (by-numbers ∙ united))
-            (record { table = refl; row = row-put (u .slot) (rule .size) t (z .1) (st .row) })
+            (record { table = refl; shelf = shelf-put (u .slot) (rule .size) t (z .1) (st .shelf) })
           where
             flag : ℕ
             flag = rule .own + b₁ + b₂
@@ -238,5 +239,5 @@ module _ {rule : Branch} where
                 ∙ ap (λ y. branch (setIn l) y (z .0)) (rr b₂ h₂ ∙ ap setIn er)
                 ∙ ap (branch (setIn l) (setIn r)) (st .table)
 
-            united : branch (setIn l) (setIn r) (base ++ recordsIn k B) ≡ (base ++ recordsIn c B′, put (z .1) t flag (rowAt W′ (rule .to) flag))
-            united = rw (full l nl, full r nr) (u .unites base (z .1) t e (st .row flag hf))
+            united : branch (setIn l) (setIn r) (base ++ recordsIn k B) ≡ (base ++ recordsIn c B′, put (z .1) t flag (shelfAt W′ (rule .to) flag))
+            united = rw (full l nl, full r nr) (u .unites base (z .1) t e (st .shelf flag hf))

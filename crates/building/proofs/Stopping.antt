@@ -15,6 +15,7 @@ use Rattle.paper.specs.Stream.{StreamRecord, recordsOf, treeRecords}
 use Rattle.paper.specs.Tree.{root}
 use Rattle.laws.proofs.Replies.{Passes}
 use Rattle.building.specs.Batch.{Made, Makes, Record, Set, empty, recordsIn, setIn}
+use Rattle.building.specs.Bounds.{ruleRecords}
 use Rattle.building.specs.Frames.{FrameIs, width}
 use Rattle.building.specs.NodeOrder.{Stack, fromNode}
 use Rattle.building.specs.Roots.{UnitedTo, unitedTo}
@@ -70,7 +71,7 @@ module _ (input : List ℕ) (t : State) (work : List ℕ) (before : List Record)
       ∙ ap (λ n. through (acceptStep recordSets (queryIn input) n (s .slots)) (before, empty) (upTo (queryIn input .states))) root-number
 
 -- ---- the turn
-module _ (input : List ℕ) (t : State) (work batch : List ℕ) (base : List Record) (f : Filling input t work batch base) (few : t .count ≤ 324)
+module _ (input : List ℕ) (t : State) (work batch : List ℕ) (base : List Record) (f : Filling input t work batch base) (few : t .count ≤ ruleRecords)
     (done : length input ≤ t .rule) (last : t .nodes ≤ t .node + 1) (m : Made) (batch′ : List ℕ)
     (u : UnitedTo input t work (t .states) batch m batch′) where
   abbrev s : Standing input t work (base ++ recordsIn (t .count) batch)

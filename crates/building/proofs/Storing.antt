@@ -10,8 +10,9 @@ use Rattle.paper.specs.Refusals.{over}
 use Rattle.table.specs.Batch.{stored}
 use Rattle.table.proofs.Batches.{length-records, stored-there}
 use Rattle.building.specs.Batch.{Record, recordsIn}
+use Rattle.building.specs.Bounds.{recordNumbers}
 
-module _ (made table : List Record) (batch : List ℕ) (count : ℕ) (entries : length made + count ≤ length table) (room : 5 * count ≤ length batch) where
+module _ (made table : List Record) (batch : List ℕ) (count : ℕ) (entries : length made + count ≤ length table) (room : recordNumbers * count ≤ length batch) where
   pub stored-behind : stored (over made table) (length made) batch count ≡ over (made ++ recordsIn count batch) table
   stored-behind =
       stored-there (over made table) (length made) batch count (omega (arith, long)) room

@@ -15,8 +15,9 @@ use lib.ListN.{length, length-append}
 use lib.Pow.{pow-mono, pow-pos}
 use Rattle.paper.specs.Lists.{each, upTo}
 use Rattle.laws.proofs.Bound.{few-beside}
-use Rattle.building.specs.Batch.{recordsIn}
-use Rattle.building.specs.Rules.{Branch, Branches, FlagsOf, OneRow, Room, Runs, Stands, Unites, flagsAt, pairAt, splitsRun}
+use Rattle.building.specs.Batch.{RoomFor, recordsIn}
+use Rattle.building.specs.Bounds.{batchRecords, fieldNumbers, mostFlags, ruleRecords, ruleSplits, splitRecords}
+use Rattle.building.specs.Rules.{Branch, Branches, FlagsOf, OneShelf, Room, Runs, Stands, Unites, flagsAt, pairAt, splitsRun}
 use Rattle.building.specs.Slots.{marksAt, slotAt}
 use Rattle.building.proofs.Marks.{Rest, first-below, first-onward, firstMark, laterMarks, none-between, rest-ends, rest-onward, rest-starts}
 use Rattle.building.proofs.Running.{each-le, each-upTo, flags-apart, flags-none, flags-shared, low-stays, marked-stays, none-run, one-run}
@@ -29,7 +30,7 @@ climbs P zero n m e step here = subst P (let w : n ≡ m = omega arith in w) her
 climbs P (suc d) n m e step here =
     climbs P d (n + 1) m (omega arith) (λ b l u. step b (omega arith) u) (step n (omega arith) (omega arith) here)
 
-pub size-small : (size : ℕ) → FlagsOf size → size ≤ 16
+pub size-small : (size : ℕ) → FlagsOf size → size ≤ mostFlags
 size-small size f = omega (arith, f .powers, pow-mono (f .small))
 
 sum-below : (size a b : ℕ) → FlagsOf size → a < size → b < size → bitAnd a b ≡ 0 → a + b < size
@@ -37,19 +38,19 @@ sum-below size a b f ha hb e =
     omega (arith, f .powers, or-disjoint a b e, or-lt (f .arity) a b (omega (arith, f .powers)) (omega (arith, f .powers)))
 
 -- the flags beside an own flag are at most 81
-few-flags : (size own : ℕ) → FlagsOf size → own < size → length (each (upTo size) (flagsAt own size)) ≤ 81
+few-flags : (size own : ℕ) → FlagsOf size → own < size → length (each (upTo size) (flagsAt own size)) ≤ ruleSplits
 few-flags size own f h =
     let n : ℕ = 2 ^ f .arity in
-    let few : length (each (upTo n) (flagsAt own n)) ≤ 81 =
+    let few : length (each (upTo n) (flagsAt own n)) ≤ ruleSplits =
     omega (arith, few-beside (f .arity) (f .small) own (omega (arith, f .powers)), pow-le-pow-right {n = 3} (omega arith) (f .small)) in
-    subst (λ m. length (each (upTo m) (flagsAt own m)) ≤ 81) (sym (f .powers)) few
+    subst (λ m. length (each (upTo m) (flagsAt own m)) ≤ ruleSplits) (sym (f .powers)) few
 
 -- ---- room stays
 pub some-flag : (size : ℕ) → FlagsOf size → 0 < size
 some-flag size f = omega (arith, f .powers, pow-pos (f .arity))
 
 room-stays : {rule : Branch} {most k : ℕ} {B W : List ℕ} {count : ℕ} {B′ W′ : List ℕ} → length B′ ≡ length B → length W′ ≡ length W
-    → OneRow (rule .to) (rule .size) (rule .used) most k W count W′ → Room rule k B W → Room rule count B′ W′
+    → OneShelf (rule .to) (rule .size) (rule .used) most k W count W′ → Room rule k B W → Room rule count B′ W′
 room-stays {rule} eb ew o r =
     record {
       flags = r .flags;
@@ -81,10 +82,10 @@ module _ {rule : Branch} {k : ℕ} {B W : List ℕ} {b₁ n count : ℕ} {B′ W
   open RightTurn s using (batch-kept, work-kept, room, left-flag, left-apart, right-flag, done)
 
   here : Room rule count B′ W′
-  here = room-stays batch-kept work-kept (done .row) room
+  here = room-stays batch-kept work-kept (done .shelf) room
 
   same-left : slotAt W′ (rule .left + b₁) ≡ slotAt W (rule .left + b₁)
-  same-left = same-set (done .row) (rule .left) (room .left-before) b₁ left-flag
+  same-left = same-set (done .shelf) (rule .left) (room .left-before) b₁ left-flag
 
   -- three flags that share no bit are together a flag
   flag-below : bitAnd (rule .own + b₁) n ≡ 0 → rule .own + b₁ + n < rule .size
@@ -93,17 +94,17 @@ module _ {rule : Branch} {k : ℕ} {B W : List ℕ} {b₁ n count : ℕ} {B′ W
       sum-below (rule .size) (rule .own + b₁) n (room .flags) left-sum right-flag e
 
   -- a split has room
-  pub split-room : bitAnd (rule .own + b₁) n ≡ 0 → k + 4 * length (flagsAt (rule .own) (rule .size) b₁) ≤ 648
-      → ((5 * count + 20 ≤ length B′) × (rule .used + count ≤ 60644))
-      × (((rule .own + b₁ + n < 16) × (rule .node < 65536))
+  pub split-room : bitAnd (rule .own + b₁) n ≡ 0 → k + splitRecords * length (flagsAt (rule .own) (rule .size) b₁) ≤ batchRecords
+      → RoomFor splitRecords (rule .used) count B′
+      × (((rule .own + b₁ + n < mostFlags) × (rule .node < fieldNumbers))
       × (((slotAt W (rule .left + b₁) ≤ rule .used + count + 1) × (slotAt W′ (rule .right + n) ≤ rule .used + count + 1))
       × ((rule .to + (rule .own + b₁ + n) < length W′) × (slotAt W′ (rule .to + (rule .own + b₁ + n)) ≤ rule .used + count + 1))))
   split-room e few =
       let below = flag-below e in
-      let f : count + 4 ≤ 648 =
+      let f : count + splitRecords ≤ batchRecords =
       omega (
         arith,
-        done .row .few,
+        done .shelf .few,
         ap length (flags-apart (rule .own) b₁ n left-apart e),
         length-append (flagsAt (rule .own) n b₁) ((b₁, n) ∷ []),
         each-le (pairAt (rule .own) b₁) (n + 1) (rule .size) (omega (arith, right-flag)),
@@ -141,7 +142,7 @@ module _ {rule : Branch} {k : ℕ} {B W : List ℕ} {b₁ n count : ℕ} {B′ W
       (one-run count B′ W′ (here .low) b₁ n (slotAt W (rule .left + b₁)) (slotAt W′ (rule .right + n)) c B″ W″ left-flag right-flag (flag-below e)
       same-left refl nl nr u)
 
--- ---- the loop over b₂: of the right row's marks some are left, and the flags before them are done
+-- ---- the loop over b₂: of the right shelf's marks some are left, and the flags before them are done
 pub record RightLoop (rule : Branch) (k : ℕ) (B W : List ℕ) (b₁ marks count : ℕ) (B′ W′ : List ℕ) : Type 0 where
   pub batch-kept : length B′ ≡ length B
   pub work-kept : length W′ ≡ length W
@@ -181,7 +182,7 @@ module _ {rule : Branch} {k : ℕ} {B W : List ℕ} (room : Room rule k B W) {b�
         go : (c : Bool) → eqb (bitAnd (rule .own + b₁) n) 0 ≡ c → Runs (flagsAt (rule .own) (n + 1) b₁) rule k B W count B′ W′
         go true e =
             with-empty (turn-at n h done) (eqb-true (bitAnd (rule .own + b₁) n) 0 e)
-            (same-set (done .row) (rule .right) (room .right-before) n h ∙ z)
+            (same-set (done .shelf) (rule .right) (room .right-before) n h ∙ z)
         go false e = with-shared (turn-at n h done) (eqb-false (bitAnd (rule .own + b₁) n) 0 e)
 
     past-empty : (n m : ℕ) → n ≤ m → m ≤ rule .size → ((b : ℕ) → n ≤ b → b < m → slotAt W (rule .right + b) ≡ 0)
@@ -229,14 +230,14 @@ module _ {rule : Branch} {k : ℕ} {B W : List ℕ} {n count : ℕ} {B′ W′ :
 
   -- the splits beside one left flag have room
   pub beside-room : Room rule count B′ W′
-  beside-room = room-stays batch-kept work-kept (done .row) room
+  beside-room = room-stays batch-kept work-kept (done .shelf) room
 
-  pub beside-few : k ≤ 324 → count + 4 * length (flagsAt (rule .own) (rule .size) n) ≤ 648
+  pub beside-few : k ≤ ruleRecords → count + splitRecords * length (flagsAt (rule .own) (rule .size) n) ≤ batchRecords
   beside-few few =
       let flags = flagsAt (rule .own) (rule .size) in
       omega (
         arith,
-        done .row .few,
+        done .shelf .few,
         ap length (each-upTo flags n),
         length-append (each (upTo n) flags) (flags n),
         each-le flags (n + 1) (rule .size) (omega (arith, left-flag)),
@@ -261,7 +262,7 @@ module _ {rule : Branch} {k : ℕ} {B W : List ℕ} {n count : ℕ} {B′ W′ :
   with-none z =
       with-left count B′ W′
       (skipped-left count B′ W′ (beside-room .low) n (rule .size) left-flag
-      (same-set (done .row) (rule .left) (room .left-before) n left-flag ∙ z))
+      (same-set (done .shelf) (rule .left) (room .left-before) n left-flag ∙ z))
 
 -- ---- the loop over b₁, likewise
 pub record LeftLoop (rule : Branch) (k : ℕ) (B W : List ℕ) (marks count : ℕ) (B′ W′ : List ℕ) : Type 0 where
@@ -301,16 +302,16 @@ module _ {rule : Branch} {k : ℕ} {B W : List ℕ} (room : Room rule k B W) whe
         branches = λ base arity label p q t lefts rights slots e f rl rr rs. rw (eq-eqb label label refl) (
           subst (λ n. Stands base t rule (splitsRun rule p q t lefts rights (each (upTo n) (flagsAt (rule .own) n)) (base ++ recordsIn k B, slots))
               count B′ W′) f
-              (m .runs base p q t lefts rights (base ++ recordsIn k B, slots) e rl rr (record { table = refl; row = rs })),
+              (m .runs base p q t lefts rights (base ++ recordsIn k B, slots) e rl rr (record { table = refl; shelf = rs })),
           λ s b h. run-others rule p q t lefts rights s b h (each (upTo (2 ^ arity)) (flagsAt (rule .own) (2 ^ arity))) (base ++ recordsIn k B, slots),
         );
-        row = record {
-          more = m .row .more;
-          few = omega (arith, m .row .few, few-flags (rule .size) (rule .own) (room .flags) (room .own-flag));
-          below = m .row .below;
-          above = m .row .above;
-          low = m .row .low;
-          marked = m .row .marked;
+        shelf = record {
+          more = m .shelf .more;
+          few = omega (arith, m .shelf .few, few-flags (rule .size) (rule .own) (room .flags) (room .own-flag));
+          below = m .shelf .below;
+          above = m .shelf .above;
+          low = m .shelf .low;
+          marked = m .shelf .marked;
         };
       }
 

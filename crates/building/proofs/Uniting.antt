@@ -7,8 +7,9 @@ use lib.ListN.{length}
 use Rattle.paper.specs.Building.{Slots, leafStep, productRecord, put, recordSets, singleRecord, triple, unionRecord, unite}
 use Rattle.paper.specs.Query.{leafRule}
 use Rattle.building.specs.Batch.{Made, Makes, Record, Set, recordsIn, setIn}
+use Rattle.building.specs.Bounds.{splitRecords, tripleRecords}
 use Rattle.building.specs.Rules.{Branch, Leaves, OneSlot, Unites, splitAt}
-use Rattle.building.specs.Slots.{Puts, rowAt}
+use Rattle.building.specs.Slots.{Puts, shelfAt}
 use Rattle.building.proofs.Making.{then-made}
 
 -- a slot with the set that was made
@@ -25,9 +26,9 @@ leaf-put n b to used k B W m B′ W′ made p =
   where
     leaves : (base : List Record) (slots : Slots Set) (label t : ℕ) → length base ≡ used
         → leafStep recordSets label n (base ++ recordsIn k B, slots) (leafRule label b t)
-        ≡ (base ++ recordsIn (m .count) B′, put slots t b (rowAt W′ to b))
+        ≡ (base ++ recordsIn (m .count) B′, put slots t b (shelfAt W′ to b))
     leaves base slots label t e =
-        let single : singleRecord n b (base ++ recordsIn k B) ≡ (base ++ recordsIn (m .count) B′, rowAt W′ to b) =
+        let single : singleRecord n b (base ++ recordsIn k B) ≡ (base ++ recordsIn (m .count) B′, shelfAt W′ to b) =
         made .makes base e ∙ ap (λ x. (base ++ recordsIn (m .count) B′, setIn x)) (sym (p .there)) in
         rw (eq-eqb label label refl) (ap (λ w. (w .0, put slots t b (w .1))) single)
 
@@ -40,7 +41,7 @@ module _ (rule : Branch) (b₁ b₂ left right k : ℕ) (B : List ℕ) where
       → Makes (singleRecord (rule .node) (rule .own)) 1 (rule .used) k B m₁ B₁
       → Makes (productRecord (rule .node) (rule .own + b₁) (setIn (m₁ .set)) (setIn left)) 1 (rule .used) (m₁ .count) B₁ m₂ B₂
       → Makes (productRecord (rule .node) (rule .own + b₁ + b₂) (setIn (m₂ .set)) (setIn right)) 1 (rule .used) (m₂ .count) B₂ m₃ B₃
-      → Makes tripled 3 (rule .used) k B m₃ B₃
+      → Makes tripled tripleRecords (rule .used) k B m₃ B₃
   triple-made m₁ m₂ m₃ B₁ B₂ B₃ h₁ h₂ h₃ =
       let n : ℕ = rule .node in
       let b₀ : ℕ = rule .own in
@@ -50,13 +51,13 @@ module _ (rule : Branch) (b₁ b₂ left right k : ℕ) (B : List ℕ) where
 
   -- united with the slot of the three flags together
   pub split-united : (W : List ℕ) (m₁ m₂ : Made) (B₁ B₂ W′ : List ℕ)
-      → Makes tripled 3 (rule .used) k B m₁ B₁
-      → Makes (unionRecord (rule .node) (rule .own + b₁ + b₂) (rowAt W (rule .to) (rule .own + b₁ + b₂)) (setIn (m₁ .set))) 1
+      → Makes tripled tripleRecords (rule .used) k B m₁ B₁
+      → Makes (unionRecord (rule .node) (rule .own + b₁ + b₂) (shelfAt W (rule .to) (rule .own + b₁ + b₂)) (setIn (m₁ .set))) 1
       (rule .used) (m₁ .count) B₁ m₂ B₂
       → Puts (rule .to) (rule .own + b₁ + b₂) (m₂ .set) W W′
       → Unites rule b₁ b₂ left right k B W (m₂ .count) B₂ W′
   split-united W m₁ m₂ B₁ B₂ W′ h₁ h₂ p =
-      record { unites = unites; slot = slot-put (rule .to) flag 4 (rule .used) k B W (make (rowAt W (rule .to) flag)) m₂ B₂ W′ whole p }
+      record { unites = unites; slot = slot-put (rule .to) flag splitRecords (rule .used) k B W (make (shelfAt W (rule .to) flag)) m₂ B₂ W′ whole p }
     where
       flag : ℕ
       flag = rule .own + b₁ + b₂
@@ -64,14 +65,14 @@ module _ (rule : Branch) (b₁ b₂ left right k : ℕ) (B : List ℕ) where
       make : Set → List Record → List Record × Set
       make old t = unionRecord (rule .node) (rule .own + b₁ + b₂) old ((tripled t) .1) ((tripled t) .0)
 
-      whole : Makes (make (rowAt W (rule .to) flag)) 4 (rule .used) k B m₂ B₂
-      whole = then-made (rule .used) k B 3 1 tripled (unionRecord (rule .node) flag (rowAt W (rule .to) flag)) m₁ m₂ B₁ B₂ h₁ h₂
+      whole : Makes (make (shelfAt W (rule .to) flag)) splitRecords (rule .used) k B m₂ B₂
+      whole = then-made (rule .used) k B tripleRecords 1 tripled (unionRecord (rule .node) flag (shelfAt W (rule .to) flag)) m₁ m₂ B₁ B₂ h₁ h₂
 
-      unites : (base : List Record) (slots : Slots Set) (t : ℕ) → length base ≡ rule .used → slots t flag ≡ rowAt W (rule .to) flag
+      unites : (base : List Record) (slots : Slots Set) (t : ℕ) → length base ≡ rule .used → slots t flag ≡ shelfAt W (rule .to) flag
           → unite recordSets (rule .node) t flag slots (tripled (base ++ recordsIn k B))
-          ≡ (base ++ recordsIn (m₂ .count) B₂, put slots t flag (rowAt W′ (rule .to) flag))
+          ≡ (base ++ recordsIn (m₂ .count) B₂, put slots t flag (shelfAt W′ (rule .to) flag))
       unites base slots t e f =
-          let u : make (slots t flag) (base ++ recordsIn k B) ≡ (base ++ recordsIn (m₂ .count) B₂, rowAt W′ (rule .to) flag) =
+          let u : make (slots t flag) (base ++ recordsIn k B) ≡ (base ++ recordsIn (m₂ .count) B₂, shelfAt W′ (rule .to) flag) =
           ap (λ x. make x (base ++ recordsIn k B)) f ∙ whole .makes base e
           ∙ ap (λ x. (base ++ recordsIn (m₂ .count) B₂, setIn x)) (sym (p .there)) in
           ap (λ w. (w .0, put slots t flag (w .1))) u

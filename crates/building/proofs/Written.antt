@@ -8,20 +8,21 @@ use lib.ListN.{drop, getD, length, length-set, set}
 use lib.Seq.{getD-set-other, getD-set-same}
 use Rattle.table.proofs.Batches.{record-in}
 use Rattle.building.specs.Batch.{Record, recordAt, recordsIn}
+use Rattle.building.specs.Bounds.{recordNumbers}
 
 -- one more record comes last
 records-more : (k : ℕ) (B : List ℕ) → recordsIn (suc k) B ≡ recordsIn k B ++ (recordAt B k ∷ [])
 unfolding recordsIn
 records-more zero B = refl
 records-more (suc k) B =
-    ap {B = List Record} (λ rs. recordAt B 0 ∷ rs) (records-more k (drop 5 B))
-    ∙ ap {B = List Record} (λ r. recordAt B 0 ∷ (recordsIn k (drop 5 B) ++ (r ∷ []))) last
+    ap {B = List Record} (λ rs. recordAt B 0 ∷ rs) (records-more k (drop recordNumbers B))
+    ∙ ap {B = List Record} (λ r. recordAt B 0 ∷ (recordsIn k (drop recordNumbers B) ++ (r ∷ []))) last
   where
-    last : recordAt (drop 5 B) k ≡ recordAt B (suc k)
-    last = sym (record-in (suc k) k (drop 5 B) (omega arith)) ∙ record-in (suc (suc k)) (suc k) B (omega arith)
+    last : recordAt (drop recordNumbers B) k ≡ recordAt B (suc k)
+    last = sym (record-in (suc k) k (drop recordNumbers B) (omega arith)) ∙ record-in (suc (suc k)) (suc k) B (omega arith)
 
--- two batches that agree below 5 * k have the same first k records
-same-records : (B B′ : List ℕ) (k : ℕ) → ((i : ℕ) → i < 5 * k → getD B′ i 0 ≡ getD B i 0) → recordsIn k B′ ≡ recordsIn k B
+-- two batches that agree below the numbers of k records have the same first k records
+same-records : (B B′ : List ℕ) (k : ℕ) → ((i : ℕ) → i < recordNumbers * k → getD B′ i 0 ≡ getD B i 0) → recordsIn k B′ ≡ recordsIn k B
 unfolding recordsIn
 same-records B B′ zero h = refl
 same-records B B′ (suc k) h =
@@ -29,11 +30,11 @@ same-records B B′ (suc k) h =
   where
     last : recordAt B′ k ≡ recordAt B k
     last = λ i. record {
-      kind = h (5 * k) (omega arith) i;
-      node = h (5 * k + 1) (omega arith) i;
-      left = h (5 * k + 2) (omega arith) i;
-      right = h (5 * k + 3) (omega arith) i;
-      flag = h (5 * k + 4) (omega arith) i;
+      kind = h (recordNumbers * k) (omega arith) i;
+      node = h (recordNumbers * k + 1) (omega arith) i;
+      left = h (recordNumbers * k + 2) (omega arith) i;
+      right = h (recordNumbers * k + 3) (omega arith) i;
+      flag = h (recordNumbers * k + 4) (omega arith) i;
     }
 
 -- ---- five numbers written from a on
@@ -67,7 +68,7 @@ module _ (B : List ℕ) (a : ℕ) (r : Record) where
       ∙ passed first (a + 1) i (r .node) (omega arith)
       ∙ passed B a i (r .kind) h
 
-  module _ (room : a + 5 ≤ length B) where
+  module _ (room : a + recordNumbers ≤ length B) where
     kind-at : getD written a 0 ≡ r .kind
     kind-at =
         passed fourth (a + 4) a (r .flag) (omega arith)
@@ -96,17 +97,18 @@ module _ (B : List ℕ) (a : ℕ) (r : Record) where
     flag-at = getD-set-same fourth (a + 4) (r .flag) 0 (omega (arith, lengths))
 
 -- the record r, written behind the first k, is one more
-pub one-more : (B : List ℕ) (k : ℕ) (r : Record) → 5 * k + 5 ≤ length B → recordsIn (k + 1) (written B (5 * k) r) ≡ recordsIn k B ++ (r ∷ [])
+pub one-more : (B : List ℕ) (k : ℕ) (r : Record) → recordNumbers * k + recordNumbers ≤ length B
+    → recordsIn (k + 1) (written B (recordNumbers * k) r) ≡ recordsIn k B ++ (r ∷ [])
 one-more B k r h =
-    ap (λ n. recordsIn n (written B (5 * k) r)) (add-one k)
-    ∙ records-more k (written B (5 * k) r)
-    ∙ ap₂ {C = List Record} (λ rs x. rs ++ (x ∷ [])) (same-records B (written B (5 * k) r) k (stays B (5 * k) r)) last
+    ap (λ n. recordsIn n (written B (recordNumbers * k) r)) (add-one k)
+    ∙ records-more k (written B (recordNumbers * k) r)
+    ∙ ap₂ {C = List Record} (λ rs x. rs ++ (x ∷ [])) (same-records B (written B (recordNumbers * k) r) k (stays B (recordNumbers * k) r)) last
   where
-    last : recordAt (written B (5 * k) r) k ≡ r
+    last : recordAt (written B (recordNumbers * k) r) k ≡ r
     last = λ i. record {
-      kind = kind-at B (5 * k) r h i;
-      node = node-at B (5 * k) r h i;
-      left = left-at B (5 * k) r h i;
-      right = right-at B (5 * k) r h i;
-      flag = flag-at B (5 * k) r h i;
+      kind = kind-at B (recordNumbers * k) r h i;
+      node = node-at B (recordNumbers * k) r h i;
+      left = left-at B (recordNumbers * k) r h i;
+      right = right-at B (recordNumbers * k) r h i;
+      flag = flag-at B (recordNumbers * k) r h i;
     }

@@ -5,12 +5,13 @@ use Prim.Native.Nat.{ℕ, _≤_}
 use lib.ListN.{length, drop}
 use Rattle.paper.specs.Refusals.{over}
 use Rattle.building.specs.Batch.{Record}
+use Rattle.building.specs.Bounds.{batchNumbers}
 use Rattle.building.specs.Standing.{State, Standing, Stopped}
 
 -- no record is made yet; the batch has room for the records of two rules, and the table for as many as are to fit
 pub record Ready (input : List ℕ) (table : List Record) (s : State) (work batch : List ℕ) : Type 0 where
   pub standing : Standing input s work []
-  pub room : 3240 ≤ length batch
+  pub room : batchNumbers ≤ length batch
   pub entries : s .limit ≤ length table
 
 -- the building has stopped, and the records made are the table's first ones. The work behind the part asked for is as it was

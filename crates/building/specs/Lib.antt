@@ -1,3 +1,6 @@
+-- The definitions that the contracts cite, each file behind those that it cites. Last the contract of `build`.
+pub mod Bounds
+pub mod Kinds
 pub mod Batch
 pub mod Slots
 pub mod Rules
@@ -10,6 +13,7 @@ pub mod Standing
 pub mod Coming
 pub mod Branches
 pub mod Roots
-pub mod Whole
+pub mod Start
+pub mod Answer
 pub mod Driving
 pub mod Face

@@ -9,6 +9,7 @@ use Rattle.paper.specs.Tree.{Tree}
 use Rattle.paper.specs.Query.{Query}
 use Rattle.paper.specs.Building.{Slots, recordSets, leafSlots, branchSlots, slotsOf}
 use Rattle.laws.specs.Plain.{Record, Set}
+use Rattle.building.specs.Kinds.{leafKind}
 
 -- the records made so far, and the slots of the unjoined subtrees
 abbrev pub Stack : Type 0
@@ -30,7 +31,7 @@ joinSlots Q label n (last ∷ older ∷ others) s =
 
 -- one record, whose node is n
 abbrev pub nodeSlots : Query → StreamRecord → ℕ → List (Slots Set) → List Record → Stack
-nodeSlots Q r n stack s = cond (eqb (r .kind) 1) (pushSlots Q (number r 0) n stack s) (joinSlots Q (number r 0) n stack s)
+nodeSlots Q r n stack s = cond (eqb (r .kind) leafKind) (pushSlots Q (number r 0) n stack s) (joinSlots Q (number r 0) n stack s)
 
 -- records one after the other, the first of them node n
 abbrev pub fromNode : Query → List StreamRecord → ℕ → List (Slots Set) → List Record → Stack

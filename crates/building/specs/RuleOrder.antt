@@ -4,13 +4,14 @@ use mathlib.Core.List.{List, map}
 use Prim.Native.Nat.{ℕ}
 use Rattle.paper.specs.Stream.{StreamRecord, number}
 use Rattle.paper.specs.Building.{Sets, Slots, Split, flagsBeside, put}
+use Rattle.building.specs.Kinds.{branchRuleKind, leafRuleKind}
 
 -- the record is a leaf rule, or a branch rule, for this label
 abbrev pub LeafRuleFor : ℕ → StreamRecord → Type 0
-LeafRuleFor label r = (r .kind ≡ 17) × (number r 0 ≡ label)
+LeafRuleFor label r = (r .kind ≡ leafRuleKind) × (number r 0 ≡ label)
 
 abbrev pub BranchRuleFor : ℕ → StreamRecord → Type 0
-BranchRuleFor label r = (r .kind ≡ 18) × (number r 0 ≡ label)
+BranchRuleFor label r = (r .kind ≡ branchRuleKind) × (number r 0 ≡ label)
 
 -- node n by a leaf rule: the single in the rule's slot
 abbrev pub leafBy : {S E : Type 0} → Sets S E → ℕ → StreamRecord → S × Slots E → S × Slots E

@@ -16,7 +16,9 @@ use Rattle.paper.specs.Refusals.{answer, treeIn, queryIn, nodesIn, workFor, mad
 use Rattle.stream.specs.Positions.{recordAt, isRuleFor}
 use Rattle.stream.specs.Reading.{treeFacts, treeReply, queryFacts, queryReply}
 use Rattle.building.specs.Batch.{Record, Set, empty, recordsIn, setIn}
+use Rattle.building.specs.Bounds.{batchRecords, mostRecords}
 use Rattle.building.specs.Frames.{FramesAre, width}
+use Rattle.building.specs.Kinds.{leafKind, ruleAbove}
 use Rattle.building.specs.NodeOrder.{fromNode}
 use Rattle.building.specs.Slots.{slotAt}
 pub use Rattle.building.specs.declared.state.State.{State}
@@ -31,7 +33,7 @@ pub record Constants (input : List ℕ) (t : State) : Type 0 where
   pub arity : t .arity ≡ queryIn input .arity
   pub states : t .states ≡ queryIn input .states
   pub asked : t .asked ≡ workFor input
-  pub limit : t .limit ≤ 60000
+  pub limit : t .limit ≤ mostRecords
 
 -- ---- the present node
 -- its number, where its record stands, and how many frames are below its own: the records of the nodes before it, its own, and those
@@ -54,13 +56,13 @@ noSlots = λ q b. empty
 -- these rules at a node, with the stack that it finds: what they make of z
 abbrev pub atNode : Query → StreamRecord → ℕ → List (Slots Set) → List Rule → List Record × Slots Set → List Record × Slots Set
 atNode Q r n stack rules z =
-    cond (eqb (r .kind) 1)
+    cond (eqb (r .kind) leafKind)
     (through (leafStep recordSets (number r 0) n) z rules)
     (through (branchStep recordSets n (getD stack 1 noSlots) (getD stack 0 noSlots)) z (splits (Q .arity) rules (number r 0)))
 
 -- the stack without the subtrees that a branch joins
 abbrev pub stackLeft : StreamRecord → List (Slots Set) → List (Slots Set)
-stackLeft r stack = cond (eqb (r .kind) 1) stack (drop 2 stack)
+stackLeft r stack = cond (eqb (r .kind) leafKind) stack (drop 2 stack)
 
 -- ---- its rules
 -- the records of the query behind its head
@@ -73,7 +75,7 @@ pub record AtRule (input : List ℕ) (node rule : ℕ) (here : StreamRecord) (ea
     (z : List Record × Slots Set) : Type 0 where
   pub passed : List StreamRecord
   pub records : laterRecords input ≡ passed ++ recordsOf (drop rule input)
-  pub found : (rule ≡ length input) ⊎ ((rule < length input) × (isRuleFor (here .kind + 16) (number here 0) (recordAt input rule) ≡ true))
+  pub found : (rule ≡ length input) ⊎ ((rule < length input) × (isRuleFor (here .kind + ruleAbove) (number here 0) (recordAt input rule) ≡ true))
   pub left : atNode (queryIn input) here node stack (rulesOf (recordsOf (drop rule input))) z
       ≡ atNode (queryIn input) here node stack (queryIn input .rules) (earlier, noSlots)
 
@@ -128,7 +130,7 @@ pub record Stepped (input : List ℕ) (t : State) (work : List ℕ) (base : List
   pub asked : r .asked ≡ t .asked
   pub rest : drop (t .asked) work′ ≡ drop (t .asked) work
   pub from : r .from ≡ length base
-  pub count : r .count ≤ 648
+  pub count : r .count ≤ batchRecords
   pub fits : r .from + r .count ≤ r .limit
   pub goes : r .going ≡ true → Standing input r work′ (base ++ recordsIn (r .count) batch′)
   pub stops : r .going ≡ false → Stopped input r (base ++ recordsIn (r .count) batch′)

@@ -1,39 +1,52 @@
-// The turns of the building at one node: its rules, and the step to the next node.
+// The turns of the building at one node: the rules of a leaf, those of a branch, and the step to the next
+// node. A rule is read where it stands in the stream, a byte each: kind, label, flag and state of a leaf
+// rule, and of a branch rule kind, label, flag, left state, right state and state.
 ghost use mathlib.Core.Path.{_≡_};
 ghost use mathlib.Core.List.{List};
 ghost use Prim.Native.Nat.{ℕ, _+_, _≤_, _<_};
 ghost use lib.ListN.{length, getD};
+ghost use Rattle.building.specs.Bounds.{batchNumbers, ruleRecords};
 ghost use Rattle.building.specs.Branches.{BranchReady, branchOf};
 ghost use Rattle.building.specs.Coming.{Comes, HasCome, Joins};
+ghost use Rattle.building.specs.Kinds.{leafKind};
 ghost use Rattle.building.specs.Standing.{IsStanding, IsFilling, Fills};
+use crate::batch::RULE_RECORDS;
 use crate::frame::clear;
 use crate::frame::copy_down;
 use crate::frame::flags;
 use crate::frame::frame_at;
 use crate::frame::frame_width;
-use crate::frame::row_at;
+use crate::frame::shelf_at;
 use crate::rule::Branch;
 use crate::rule::branch_rule;
 use crate::rule::leaf_rule;
 use crate::state::State;
 use crate::state::count_records;
+use paper::kinds::BRANCH_RULE;
+use paper::kinds::LEAF;
+use paper::kinds::LEAF_RULE;
+use paper::kinds::RULE_ABOVE;
 use stream::body_length;
 use stream::next_rule;
 
-// The rules of a leaf from the next one on, as long as there is room in the batch for the records of one more.
+// The rules of a leaf from the next one on, as long as there is room in the batch for the records of one
+// more. The loop ends since `rule` moves on through the stream, to its end where no rule is left; where
+// the batch ends it, the turn after the next store goes on at `rule`. A leaf rule makes one record at
+// most, and yet the loop stops where a branch's does: so one law (proofs/RuleLoop.antt) serves both.
 pub(crate) fn leaf_rules(t: State, input: &[u8], work: &mut [u64], batch: &mut [u16]) -> State
     requires { ⌜ IsFilling (now input) t (now work) (now batch) ⌝ }
-    requires { ⌜ (t .rule < length (now input)) × (getD (now input) (t .at) 0 ≡ 1) ⌝ }
-    requires { ⌜ (3240 ≤ length (now batch)) × (t .count ≤ 324) ⌝ }
+    requires { ⌜ (t .rule < length (now input)) × (getD (now input) (t .at) 0 ≡ leafKind) ⌝ }
+    requires { ⌜ (batchNumbers ≤ length (now batch)) × (t .count ≤ ruleRecords) ⌝ }
     ensures { λ r. ⌜ Fills (now (input .entry)) t (now (work .entry)) (now (batch .entry)) r (now (work .exit)) (now (batch .exit)) ⌝ }
 {
     let at = t.at;
     let label = input[at + 1];
     let mut count = t.count;
     let mut rule = t.rule;
-    while rule < input.len() && count <= 324 {
+    while rule < input.len() && count <= RULE_RECORDS {
+        // The slots of this rule are in the node's own frame, the one on top.
         let flag = input[rule + 2] as usize;
-        let to = row_at(t.arity, t.states, t.top, input[rule + 3] as usize);
+        let to = shelf_at(t.arity, t.states, t.top, input[rule + 3] as usize);
         count = leaf_rule(
             &mut *batch,
             &mut *work,
@@ -43,20 +56,21 @@ pub(crate) fn leaf_rules(t: State, input: &[u8], work: &mut [u64], batch: &mut [
             flag,
             to,
         );
-        rule = next_rule(input, rule + 1 + body_length(17), 17, label);
+        rule = next_rule(input, rule + 1 + body_length(LEAF_RULE), LEAF_RULE, label);
     }
+    // Once a turn, and not once a rule: until it is stored the batch may go past the limit.
     count_records(t, count, rule)
 }
 
-// A rule of a branch, and its rows: of the left state in the older child's frame, the second below the node's, of the right one in the
-// last child's, the first below, and of its own in the node's frame.
+// A rule of a branch, and its shelves: of the left state in the older child's frame, the second below the
+// node's, of the right one in the last child's, the first below, and of its own in the node's frame.
 fn branch_at(t: State, input: &[u8], rule: usize) -> Branch
     requires { ⌜ BranchReady (now input) t rule ⌝ }
     ensures { λ r. ⌜ r ≡ branchOf (now (input .entry)) t rule ⌝ }
 {
-    let left = row_at(t.arity, t.states, t.top - 2, input[rule + 3] as usize);
-    let right = row_at(t.arity, t.states, t.top - 1, input[rule + 4] as usize);
-    let to = row_at(t.arity, t.states, t.top, input[rule + 5] as usize);
+    let left = shelf_at(t.arity, t.states, t.top - 2, input[rule + 3] as usize);
+    let right = shelf_at(t.arity, t.states, t.top - 1, input[rule + 4] as usize);
+    let to = shelf_at(t.arity, t.states, t.top, input[rule + 5] as usize);
     Branch {
         used: t.from,
         node: t.node,
@@ -68,42 +82,50 @@ fn branch_at(t: State, input: &[u8], rule: usize) -> Branch
     }
 }
 
-// The rules of a branch, likewise.
+// The rules of a branch, likewise: the loop ends by the stream or by the batch, as that of a leaf.
 pub(crate) fn branch_rules(t: State, input: &[u8], work: &mut [u64], batch: &mut [u16]) -> State
     requires { ⌜ IsFilling (now input) t (now work) (now batch) ⌝ }
-    requires { ⌜ (t .rule < length (now input)) × (getD (now input) (t .at) 0 ≡ 1 → ⊥) ⌝ }
-    requires { ⌜ (3240 ≤ length (now batch)) × (t .count ≤ 324) ⌝ }
+    requires { ⌜ (t .rule < length (now input)) × (getD (now input) (t .at) 0 ≡ leafKind → ⊥) ⌝ }
+    requires { ⌜ (batchNumbers ≤ length (now batch)) × (t .count ≤ ruleRecords) ⌝ }
     ensures { λ r. ⌜ Fills (now (input .entry)) t (now (work .entry)) (now (batch .entry)) r (now (work .exit)) (now (batch .exit)) ⌝ }
 {
     let at = t.at;
     let label = input[at + 1];
     let mut count = t.count;
     let mut rule = t.rule;
-    while rule < input.len() && count <= 324 {
+    while rule < input.len() && count <= RULE_RECORDS {
         let here = branch_at(t, input, rule);
         count = branch_rule(&mut *batch, &mut *work, count, here);
-        rule = next_rule(input, rule + 1 + body_length(18), 18, label);
+        rule = next_rule(
+            input,
+            rule + 1 + body_length(BRANCH_RULE),
+            BRANCH_RULE,
+            label,
+        );
     }
     count_records(t, count, rule)
 }
 
-// The frame of the present node becomes that of a subtree, a branch's in the place of the frames that it joins. How many frames there
-// are then.
+// The frame of the present node becomes that of a subtree. A leaf's stays where it is. A branch's is
+// copied down over the older child's; the place of the last child's is then free, and is where the next
+// node's frame will be. So the frames are always those of the unjoined subtrees. How many there are then.
 fn join_frames(t: State, input: &[u8], work: &mut [u64]) -> usize
     requires { ⌜ IsStanding (now input) t (now work) ⌝ }
     ensures { λ r. ⌜ Joins (now (input .entry)) t (now (work .entry)) r (now (work .exit)) ⌝ }
 {
     let at = t.at;
-    if input[at] == 1 {
+    if input[at] == LEAF {
         return t.top + 1;
     }
+    // There are two below: the tree was read, and a branch with fewer than two unjoined is refused with 1.
     let from = frame_at(t.arity, t.states, t.top);
     let to = frame_at(t.arity, t.states, t.top - 2);
     copy_down(&mut *work, from, to, frame_width(t.arity, t.states));
     t.top - 1
 }
 
-// The start of a node: its frame is cleared, and its first rule looked for, whose kind is 16 more than the node's.
+// The start of a node: its frame is cleared, and its first rule looked for, whose kind is 16 more than
+// the node's. What stands in the frame before is what another subtree or the lender has left there.
 pub(crate) fn start_node(
     t: State,
     node: usize,
@@ -117,18 +139,19 @@ pub(crate) fn start_node(
 {
     let from = frame_at(t.arity, t.states, top);
     clear(&mut *work, from, frame_width(t.arity, t.states));
+    // The rules are looked through anew for each node, from the first on: nothing is kept of them.
     let mut next = t;
     next.node = node;
     next.at = at;
     next.top = top;
-    next.rule = next_rule(input, t.rules, input[at] + 16, input[at + 1]);
+    next.rule = next_rule(input, t.rules, input[at] + RULE_ABOVE, input[at + 1]);
     next
 }
 
-// The end of the present node and the start of the next.
+// The end of the present node and the start of the next. No record is made, so the batch is not needed.
 pub(crate) fn next_node(t: State, input: &[u8], work: &mut [u64]) -> State
     requires { ⌜ IsStanding (now input) t (now work) ⌝ }
-    requires { ⌜ (length (now input) ≤ t .rule) × (t .node + 1 < t .nodes) × (t .count ≤ 324) ⌝ }
+    requires { ⌜ (length (now input) ≤ t .rule) × (t .node + 1 < t .nodes) × (t .count ≤ ruleRecords) ⌝ }
     ensures { λ r. ⌜ ((batch : List ℕ) → Fills (now (input .entry)) t (now (work .entry)) batch r (now (work .exit)) batch) ⌝ }
 {
     let at = t.at;

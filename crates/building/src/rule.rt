@@ -1,11 +1,13 @@
-// One rule at one node: the records that it makes go into a batch, the sets into the slots of the rule's state. The slots of a state
-// are a row of numbers in work, one for each flag.
+// One rule at one node: the records that it makes go into a batch, the sets into the shelf of the rule's
+// state in the node's frame. First a leaf rule; then a branch rule: one split, the splits with one left
+// flag, and all of them. A split is a flag b1 for the left child and a flag b2 for the right one.
 ghost use mathlib.Core.Path.{_≡_};
 ghost use Prim.Native.Nat.{_+_, _*_, _≤_, _<_};
 ghost use lib.Bits.{bitAnd};
 ghost use lib.ListN.{length};
 ghost use Rattle.paper.specs.Building.{triple, recordSets};
-ghost use Rattle.building.specs.Batch.{setIn, Makes};
+ghost use Rattle.building.specs.Batch.{setIn, Makes, RoomFor};
+ghost use Rattle.building.specs.Bounds.{batchRecords, fieldNumbers, mostFlags, ruleRecords, splitRecords, tripleRecords};
 ghost use Rattle.building.specs.Rules.{splitAt, flagsAt, Unites, Leaves, Branches, Room, Runs};
 ghost use Rattle.building.specs.Slots.{slotAt};
 use crate::batch::Made;
@@ -14,9 +16,11 @@ use crate::batch::single;
 use crate::batch::union;
 use crate::slot::SETS;
 use crate::slot::put_set;
+use table::EMPTY;
 
-// A branch rule at a node: the records in the table, the node, how many flags there are, the rule's own flag, and where in work the
-// rows of its left state, its right state and the state that it names start.
+// A branch rule at a node: the records in the table, the node, how many flags there are, the rule's own
+// flag, and where in work the shelves of its left state, its right state and the state that it names
+// start. The last is behind the other two, which stand in the frames below the node's.
 pub(crate) struct Branch {
     pub(crate) used: usize,
     pub(crate) node: usize,
@@ -27,7 +31,8 @@ pub(crate) struct Branch {
     pub(crate) to: usize,
 }
 
-// A leaf rule that matches: the single of its flag, put into its slot.
+// A leaf rule that matches: the single of its flag, put into its slot. It is not united with what stands
+// there: a second rule for this label and flag would have been refused with 4, so that is empty.
 pub(crate) fn leaf_rule(
     batch: &mut [u16],
     work: &mut [u64],
@@ -37,8 +42,8 @@ pub(crate) fn leaf_rule(
     flag: usize,
     to: usize,
 ) -> usize
-    requires { ⌜ (5 * k + 5 ≤ length (now batch)) × (used + k ≤ 60648) ⌝ }
-    requires { ⌜ flag < 16 ⌝ }
+    requires { ⌜ RoomFor 1 used k (now batch) ⌝ }
+    requires { ⌜ flag < mostFlags ⌝ }
     requires { ⌜ to + flag < length (now work) ⌝ }
     ensures { λ r. ⌜ Leaves node flag to used k (now (batch .entry)) (now (work .entry)) r (now (batch .exit)) (now (work .exit)) ⌝ }
 {
@@ -47,7 +52,9 @@ pub(crate) fn leaf_rule(
     made.count
 }
 
-// The single of the own flag times left, times right. The states of the split do not matter here.
+// The single of the own flag times left, times right: at most three records, in the paper's order. With
+// own flag 0 the single is unit and makes none, nor does a product with it. The states of the split do not
+// matter here.
 fn triple(
     batch: &mut [u16],
     k: usize,
@@ -57,10 +64,10 @@ fn triple(
     left: u64,
     right: u64,
 ) -> Made
-    requires { ⌜ (5 * k + 15 ≤ length (now batch)) × (rule .used + k ≤ 60646) ⌝ }
-    requires { ⌜ (rule .own + b1 + b2 < 16) × (rule .node < 65536) ⌝ }
+    requires { ⌜ RoomFor tripleRecords (rule .used) k (now batch) ⌝ }
+    requires { ⌜ (rule .own + b1 + b2 < mostFlags) × (rule .node < fieldNumbers) ⌝ }
     requires { ⌜ (left ≤ rule .used + k + 1) × (right ≤ rule .used + k + 1) ⌝ }
-    ensures { λ r. ⌜ Makes (triple recordSets (rule .node) (splitAt (rule .own) 0 0 0 (b1, b2)) (setIn left) (setIn right)) 3 (rule .used) k
+    ensures { λ r. ⌜ Makes (triple recordSets (rule .node) (splitAt (rule .own) 0 0 0 (b1, b2)) (setIn left) (setIn right)) tripleRecords (rule .used) k
         (now (batch .entry)) r (now (batch .exit)) ⌝ }
 {
     let used = rule.used;
@@ -72,7 +79,8 @@ fn triple(
     product(&mut *batch, inner.count, used, node, flag, inner.set, right)
 }
 
-// A split, united on the right with the slot of its three flags together. Its children's sets are left and right.
+// A split, united on the right with the slot of its three flags together. Its children's sets are left
+// and right. At most four records: those of the triple, and the union, unless the slot was empty.
 fn split(
     batch: &mut [u16],
     work: &mut [u64],
@@ -83,8 +91,8 @@ fn split(
     left: u64,
     right: u64,
 ) -> usize
-    requires { ⌜ (5 * k + 20 ≤ length (now batch)) × (rule .used + k ≤ 60644) ⌝ }
-    requires { ⌜ (rule .own + b1 + b2 < 16) × (rule .node < 65536) ⌝ }
+    requires { ⌜ RoomFor splitRecords (rule .used) k (now batch) ⌝ }
+    requires { ⌜ (rule .own + b1 + b2 < mostFlags) × (rule .node < fieldNumbers) ⌝ }
     requires { ⌜ (left ≤ rule .used + k + 1) × (right ≤ rule .used + k + 1) ⌝ }
     requires { ⌜ (rule .to + (rule .own + b1 + b2) < length (now work))
         × (slotAt (now work) (rule .to + (rule .own + b1 + b2)) ≤ rule .used + k + 1) ⌝ }
@@ -92,6 +100,7 @@ fn split(
 {
     let used = rule.used;
     let node = rule.node as u16;
+    // The three share no bit, so that their sum is the flag of all their places.
     let flag = rule.own + b1 + b2;
     let to = rule.to;
     let old = work[to + flag] % SETS;
@@ -101,28 +110,33 @@ fn split(
     whole.count
 }
 
-// The splits of a branch rule whose left flag is b1, unless the left child's slot is empty: for each b2 ascending that shares no bit
-// and at which the right child's slot is not empty. Such a b2 is marked: the marks of the right row are taken one by one, the first first.
+// The splits of a branch rule whose left flag is b1, unless the left child's slot is empty: for each b2
+// ascending that shares no bit and at which the right child's slot is not empty. Such a b2 is marked: the
+// marks of the right shelf are taken one by one, the lowest first. The loop ends since each turn takes a
+// mark away. The rule writes its own shelf alone, so that what is read of the children's stays the same.
 fn beside(batch: &mut [u16], work: &mut [u64], k: usize, rule: Branch, b1: usize) -> usize
     requires { ⌜ Room rule k (now batch) (now work) ⌝ }
     requires { ⌜ (b1 < rule .size) × (bitAnd (rule .own) b1 ≡ 0) ⌝ }
-    requires { ⌜ k + 4 * length (flagsAt (rule .own) (rule .size) b1) ≤ 648 ⌝ }
+    requires { ⌜ k + splitRecords * length (flagsAt (rule .own) (rule .size) b1) ≤ batchRecords ⌝ }
     ensures { λ r. ⌜ Runs (flagsAt (rule .own) (rule .size) b1) rule k
         (now (batch .entry)) (now (work .entry)) r (now (batch .exit)) (now (work .exit)) ⌝ }
 {
     let left = rule.left;
     let right = rule.right;
     let here = work[left + b1] % SETS;
-    if here == 0 {
+    if here == EMPTY {
         return k;
     }
     let mut count = k;
     let mut marks = work[right] / SETS;
     while marks != 0 {
+        // The lowest mark that is left; the last line of the turn takes it away.
         let b2 = u64::trailing_zeros(marks) as usize;
+        // A shared bit would fill a place twice. Own flag and b1 share none: their sum has the bits of both.
         if ((rule.own + b1) & b2) == 0 {
             let there = work[right + b2] % SETS;
-            if there != 0 {
+            // What is proved of the marks is only that a slot without one is empty.
+            if there != EMPTY {
                 count = split(&mut *batch, &mut *work, count, rule, b1, b2, here, there);
             }
         }
@@ -131,10 +145,11 @@ fn beside(batch: &mut [u16], work: &mut [u64], k: usize, rule: Branch, b1: usize
     count
 }
 
-// A branch rule that matches: its splits, for each b1 ascending that shares no bit with the own flag and then for each such b2. The
-// marks of the left row are taken likewise.
+// A branch rule that matches: its splits, for each b1 ascending that shares no bit with the own flag and
+// then for each such b2. The marks of the left shelf are taken likewise, and the loop ends likewise. All
+// splits together make at most RULE_RECORDS: with no more than these in the batch there is room for them.
 pub(crate) fn branch_rule(batch: &mut [u16], work: &mut [u64], k: usize, rule: Branch) -> usize
-    requires { ⌜ Room rule k (now batch) (now work) × (k ≤ 324) ⌝ }
+    requires { ⌜ Room rule k (now batch) (now work) × (k ≤ ruleRecords) ⌝ }
     ensures { λ r. ⌜ Branches rule k (now (batch .entry)) (now (work .entry)) r (now (batch .exit)) (now (work .exit)) ⌝ }
 {
     let left = rule.left;

@@ -1,12 +1,14 @@
-// Where the building stands between two turns.
+// Where the building stands between two turns. A state is handed on by value, and returned: a function
+// that takes a reference to a struct would be proved by hand.
 ghost use mathlib.Core.Path.{_≡_};
 ghost use Prim.Native.Nat.{_≤_};
 ghost use Rattle.building.specs.States.{counted};
 
-// `from` is where the batch goes in the table, `count` how many records it has. `at` is where the record of the present node stands,
-// `top` how many frames are below its own, `rule` where its next matching rule stands: the end of the input where none is left. `set`
-// is the set that was made, once the building has stopped, `over` that it stopped at the limit. The others stay: the nodes, where the
-// rules begin, the query's arity and states, the records that fit, the work asked for.
+// `from` is where the batch goes in the table, `count` how many records it has. `at` is where the record
+// of the present node stands, `top` how many frames are below its own, `rule` where its next matching
+// rule stands: the end of the input where none is left. `set` is the set that was made, once the building
+// has stopped, `over` that it stopped at the limit. The others stay: the nodes, where the rules begin, the
+// query's arity and states, the records that fit, the work asked for.
 pub(crate) struct State {
     pub(crate) from: usize,
     pub(crate) count: usize,
@@ -25,12 +27,15 @@ pub(crate) struct State {
     pub(crate) over: bool,
 }
 
-// With so many records in the batch, and on to the next rule, unless the records pass the limit.
+// With so many records in the batch, and on to the next rule, unless the records pass the limit. Then the
+// batch counts as empty, so that `drive` stores nothing of it, and the building stops: what is left of it
+// could only make more records, and the answer is refusal 6 already.
 pub(crate) fn count_records(t: State, count: usize, rule: usize) -> State
     requires { ⌜ t .from ≤ t .limit ⌝ }
     ensures { λ r. ⌜ r ≡ counted t count rule ⌝ }
 {
     let mut next = t;
+    // `from` is never past the limit, since this was asked of every batch before.
     if t.limit - t.from < count {
         next.count = 0;
         next.going = false;

@@ -1,5 +1,4 @@
--- The theorems speak of something: B followed by Q is built, and by the theorem, not by a run, the row (0, 3) is in its answer;
--- and demand 3 applies to the fixings of P7.
+-- The theorems speak of something: B followed by Q is built, and demand 3 applies to the fixings of P7.
 use mathlib.Core.Bool.{Bool, _&&_, true}
 use mathlib.Core.List.{List, List·Memᴰ·cases-cons, List·Memᴰ·not-nil, [], _++_, _∷_}
 use mathlib.Core.Logic.{⊎-elim}
@@ -10,15 +9,13 @@ use lib.ListN.{replicate}
 use Rattle.paper.specs.Lists.{_∈_}
 use Rattle.paper.specs.Records.{blankEntry}
 use Rattle.paper.specs.Refusals.{Reply, Test, answer, build, buildTests, headFrom, madeFrom, over, tableAfter}
-use Rattle.laws.specs.Built.{BuiltSet, InAnswer}
+use Rattle.laws.specs.Built.{BuiltSet}
 use Rattle.laws.specs.Fixings.{DifferentPlaces, FixedAll, Fixing, Lent, asUsed}
 use Rattle.paper.specs.Cases.{queryQ, treeB}
 use Rattle.laws.specs.Plain.{Head, Record}
-use Rattle.laws.proofs.BuiltSets.{built-right}
 use Rattle.laws.proofs.FixingsRight.{built-fixings, used-enough}
-use Rattle.laws.proofs.Lists.{both-true, here, only}
+use Rattle.laws.proofs.Lists.{both-true, only}
 use Rattle.laws.proofs.Replies.{Passes, answers}
-use Rattle.laws.proofs.TestedCauses.{different}
 
 -- B followed by Q, and a lent table with three entries more than are needed
 abbrev input : List ℕ
@@ -52,10 +49,6 @@ built-B = record {
   answered = given;
   left = ap (λ (r : Reply (Head × List Record)). tableAfter r lent) (sym given);
 }
-
--- the first row of P2
-pub accepted-first : InAnswer input (0 ∷ 3 ∷ [])
-accepted-first = built-right input (headFrom input) (over (madeFrom input) lent) built-B .lists (0 ∷ 3 ∷ []) .0 here
 
 -- ---- P7
 abbrev first : Fixing

@@ -12,6 +12,7 @@ pub(crate) struct Handed {
     failed: bool,
 }
 
+// Before the first write.
 pub(crate) fn nothing() -> Handed
     ensures { λ r. ⌜ r ≡ nothingHanded ⌝ }
 {
@@ -21,6 +22,7 @@ pub(crate) fn nothing() -> Handed
     }
 }
 
+// Whether a write failed. A function, since the field is not known elsewhere.
 pub(crate) fn has_failed(handed: Handed) -> bool
     ensures { λ r. ⌜ r ≡ handed .failed ⌝ }
 {

@@ -1,4 +1,6 @@
-// The listing program: a stream on standard input, its rows on standard output.
+// The listing program: a stream on standard input, its rows on standard output. First the listing, row after row, then the buffers
+// that it needs, then all that is told of an input, and last what is read. Everything that thinks is called from elsewhere: `building`
+// makes the set, `sound` counts it, `row` gives each row, and this crate turns them into text (text.rt) and hands it on (handed.rt).
 ghost use mathlib.Core.Path.{_≡_};
 ghost use Prim.Native.Nat.{_≤_};
 ghost use lib.ListN.{length};
@@ -23,7 +25,8 @@ mod handed;
 mod page;
 mod text;
 
-// The built set, or one that lists nothing.
+// The built set, or one that lists nothing. A refused build has no head, but the walk below is a straight line that counts in either
+// case: the count of this one is refused, and the refusal of the build, which comes first, is what is told (`open_page`).
 fn head_of(built: Built) -> Head
     ensures { λ h. ⌜ h ≡ headOf built ⌝ }
 {
@@ -39,7 +42,8 @@ fn head_of(built: Built) -> Head
     }
 }
 
-// The rows that are still to be told, a line each.
+// The rows that are still to be told, a line each. The loop ends since each turn tells one more of the rows that were counted, or
+// finds that a write has failed. Four entries are room for any row, since the arity of a sound set is at most 4.
 fn rows(
     head: Head,
     table: &[Record],
@@ -61,7 +65,8 @@ fn rows(
     t
 }
 
-// What is told of an input, up to what waits, with a table of 2,000 entries and a work of 16,384 numbers.
+// What is told of an input, up to what waits. Document 01 gives the program a table of 2,000 entries and a work of 16,384 numbers: a
+// stream that asks for more is refused 6 or 5. The table is lent blank, but any table would do, since `build` says what it leaves.
 fn list(input: &[u8], text: &mut [u8]) -> Page
     requires { ⌜ (length (now input) ≤ 16384) × (85 ≤ length (now text)) × (length (now text) ≤ 65536) ⌝ }
     ensures { λ r. ⌜ Lists (now (input .entry)) r (now (text .exit)) ⌝ }
@@ -82,7 +87,7 @@ fn list(input: &[u8], text: &mut [u8]) -> Page
     rows(head, &table, s, &mut work, &mut *text, input)
 }
 
-// An input that is too long is refused before all.
+// An input of more than 16,384 bytes is refused 14, before any byte of it is looked at.
 fn answer(input: &[u8], text: &mut [u8]) -> Page
     requires { ⌜ (85 ≤ length (now text)) × (length (now text) ≤ 65536) ⌝ }
     ensures { λ r. ⌜ Lists (now (input .entry)) r (now (text .exit)) ⌝ }
@@ -93,7 +98,8 @@ fn answer(input: &[u8], text: &mut [u8]) -> Page
     list(input, &mut *text)
 }
 
-// All that is told of an input, handed on.
+// All that is told of an input, handed on. What waits when the last row is told is handed on here; not so where a write has failed
+// before, since the text would then go on behind a gap.
 fn tell(input: &[u8], text: &mut [u8]) -> Handed
     requires { ⌜ (85 ≤ length (now text)) × (length (now text) ≤ 65536) ⌝ }
     ensures { λ r. ⌜ HandsOn (now (input .entry)) r ⌝ }
@@ -107,7 +113,9 @@ fn tell(input: &[u8], text: &mut [u8]) -> Handed
     last.handed
 }
 
-// One byte more is read than the program takes, to see an input that is too long.
+// One byte more is read than the program takes, to see an input that is too long: `read_full` stops where the buffer is full or the
+// input ends, so 16,385 bytes read mean that there were too many. The text's buffer is large so that a write of the system, which
+// costs far more than a line, is made for hundreds of lines at once.
 fn main() {
     let mut input = [0u8; 16385];
     let mut text = io::large_buffer();

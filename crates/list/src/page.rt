@@ -1,4 +1,5 @@
-// The listing as it goes: what is still to be told, and the text that waits to be written.
+// The listing as it goes: what is still to be told, and the text that waits to be written. First the lines before the rows, or the one
+// line of a refusal; then handing on what waits; then one row's line. Lines are gathered in the text until the next might not fit.
 ghost use mathlib.Core.Path.{_≡_};
 ghost use Prim.Native.Nat.{_≤_};
 ghost use lib.ListN.{length};
@@ -17,11 +18,12 @@ use paper::Head;
 use paper::Refusal;
 use paper::Written;
 
-// A line has at most four entries, each with a space before it and at most 20 digits, and its end.
+// A line has at most four entries, each with a space before it and at most 20 digits, and its end: 4 * 21 + 1. An entry has at most
+// five digits in fact, but `put_number` puts any 64-bit number, and a bound that needs no fact about the row costs nothing here.
 const LONGEST_LINE: usize = 85;
 
 // `number` is the next row's, of so many rows with so many places. `handed` tells what was handed on, and the first `bytes` of the text
-// wait.
+// wait. `going` is that there is a row to tell and no write has failed.
 pub(crate) struct Page {
     pub(crate) number: u64,
     pub(crate) rows: u64,
@@ -31,7 +33,8 @@ pub(crate) struct Page {
     pub(crate) going: bool,
 }
 
-// One line with the number that says no, and no more.
+// One line with the number that says no, and no more. The text is empty then, so 58 bytes, which two such lines take at most (a word of
+// 8, 20 digits and the end, twice), are enough here too.
 pub(crate) fn refuse(why: Refusal, text: &mut [u8]) -> Page
     requires { ⌜ (58 ≤ length (now text)) × (length (now text) ≤ 65536) ⌝ }
     ensures { λ r. ⌜ Refuses (numberOf why) r (now (text .exit)) ⌝ }
@@ -52,7 +55,7 @@ pub(crate) fn refuse(why: Refusal, text: &mut [u8]) -> Page
     }
 }
 
-// The records made and the rows, before the first row.
+// The records made and the rows, before the first row: two lines, told before any row is asked for.
 fn facts(head: Head, rows: u64, text: &mut [u8]) -> usize
     requires { ⌜ (58 ≤ length (now text)) × (length (now text) ≤ 65536) ⌝ }
     ensures { λ r. ⌜ Facts (head .used) rows r (now (text .exit)) ⌝ }
@@ -91,7 +94,7 @@ pub(crate) fn open_page(built: Built, counted: Counted, text: &mut [u8]) -> Page
     }
 }
 
-// What waits is handed on.
+// What waits is handed on, and nothing waits. It is asked for only where no write has failed, so the text goes on without a gap.
 pub(crate) fn pass_on(input: &[u8], t: Page, text: &mut [u8]) -> Page
     requires { ⌜ Waits (now input) t (now text) ⌝ }
     ensures { λ r. ⌜ r ≡ passedOn t (r .handed .failed) ⌝ }
@@ -105,7 +108,7 @@ pub(crate) fn pass_on(input: &[u8], t: Page, text: &mut [u8]) -> Page
     next
 }
 
-// What waits is handed on, if a line might not fit behind it.
+// What waits is handed on, if a line might not fit behind it. With 85 bytes left any line fits, so it is never measured first.
 fn make_room(input: &[u8], t: Page, text: &mut [u8]) -> Page
     requires { ⌜ Waits (now input) t (now text) ⌝ }
     ensures { λ r. ⌜ MakesRoom t (now (text .entry)) r (now (text .exit)) ⌝ }
@@ -116,7 +119,8 @@ fn make_room(input: &[u8], t: Page, text: &mut [u8]) -> Page
     pass_on(input, t, &mut *text)
 }
 
-// The line of the next row, which stands in `row` if it was written there. Where handing on fails nothing more is to come.
+// The line of the next row, which stands in `row` if it was written there. Where handing on fails nothing more is to come. A row that
+// was counted is always written (list/proofs/Telling), so the case of a refusal is only there to have an answer for it: it stops.
 pub(crate) fn put_line(
     t: Page,
     written: Written,

@@ -1,9 +1,14 @@
 // The plain types that document 01 speaks of: a record of the table, a set and its head, the two fixed names, the refusals, and
-// an answer for each call. What they mean stands in specs/, section by section; specs/Answers.antt has the number of each refusal.
+// an answer for each call. The kinds of records and the limits have files of their own. What they mean stands in specs/, section
+// by section; specs/Answers.antt has the number of each refusal.
 ghost use mathlib.Core.Path.{_≡_};
 ghost use Rattle.paper.specs.Answers.{numberOf};
 
-// One entry of the lent table. All zeros is the blank entry.
+pub mod kinds;
+pub mod limits;
+
+// One entry of the lent table: a single, a union or a product, by its kind. All zeros is the blank entry. Each number of document 01
+// fits 16 bits, so an entry has ten bytes and no padding, and a C compiler lays it out the same: hence `repr(C)`.
 #[repr(C)]
 pub struct Record {
     pub kind: u16,
@@ -13,13 +18,15 @@ pub struct Record {
     pub flag: u16,
 }
 
+// What a head's set is. Empty lists no row and unit one row of blanks; neither is ever a record, nor an operand of one.
 pub enum Set {
     Empty,
     Unit,
     Record(u16),
 }
 
-// `open_places` is a flag.
+// Of a set: the nodes of its tree, its arity, its open places as a flag, how many entries of its table are used, and the set itself.
+// A head that a caller hands back may hold any numbers; the questions test them before all else and refuse what is not sound.
 pub struct Head {
     pub nodes: u16,
     pub arity: u16,
@@ -35,14 +42,15 @@ impl Flag {
     pub const NONE: u16 = 0;
 }
 
-// What stands at a place of a row: a node, or the mark for a blank place.
+// What stands at a place of a row: a node, or the mark for a blank place. No node has this number, since a tree has at most 4,095.
 pub struct Place(pub u16);
 
 impl Place {
     pub const BLANK: u16 = 65535;
 }
 
-// The numbers that say no, in the order of their table.
+// The numbers that say no, in the order of their table, each case named after its cause. It is one enum for all calls, so that a number
+// means the same wherever it is met; which call gives which, and which first, is said in specs/Refusals.antt.
 pub enum Refusal {
     Tree,
     ManyNodes,
@@ -61,7 +69,7 @@ pub enum Refusal {
 }
 
 impl Refusal {
-    // The paper's number.
+    // The paper's number. It stands here and nowhere else: C, its bindings and the program have it from this function.
     pub fn number(self) -> u8
         ensures { λ n. ⌜ n ≡ numberOf self ⌝ }
     {
@@ -84,34 +92,40 @@ impl Refusal {
     }
 }
 
+// The answers. Each call has an enum of its own, since the language has no generics; a case for each answer, and one for a refusal.
+
+// Build: the set stands in the table, and this is its head.
 pub enum Built {
     Set(Head),
     Refused(Refusal),
 }
 
+// Count: how many rows are listed, at most 2 to the power of 48.
 pub enum Counted {
     Rows(u64),
     Refused(Refusal),
 }
 
-// Row by number: the row stands in the output.
+// Row by number: the row stands in the output, one entry a place.
 pub enum Written {
     Row,
     Refused(Refusal),
 }
 
+// Member: whether the row is listed.
 pub enum Member {
     Listed,
     NotListed,
     Refused(Refusal),
 }
 
-// Project: the marks stand in the output.
+// Project: the marks stand in the output, one byte a node.
 pub enum Projected {
     Marks,
     Refused(Refusal),
 }
 
+// Fix: the new set stands in the target, and this is its head.
 pub enum Fixed {
     Set(Head),
     Refused(Refusal),

@@ -17,9 +17,9 @@ use Rattle.paper.specs.Stream.{StreamRecord, bodyLength, isTreeKind, queryRecor
 use Rattle.laws.proofs.Lists.{which}
 use Rattle.laws.proofs.Replies.{Passes, answered, passes-left}
 use Rattle.laws.proofs.StreamPlaces.{firstRecord, records-cons, tree-kind}
+use Rattle.stream.specs.OneRecord.{queryWith}
 use Rattle.stream.specs.Positions.{after, recordAt}
 use Rattle.stream.specs.Reading.{QueryFacts, queryFacts, queryReply}
-use Rattle.stream.specs.Steps.{queryWith}
 use Rattle.stream.proofs.EachRecord.{each-passed}
 use Rattle.stream.proofs.Positions.{records-here, records-none}
 

@@ -13,9 +13,9 @@ use Rattle.paper.specs.Query.{isRuleKind}
 use Rattle.paper.specs.Stream.{bodyLength, number, whole}
 use Rattle.laws.proofs.Lists.{both-true, not-then-false, or-left, or-right, which}
 use Rattle.laws.proofs.StreamPlaces.{made-of}
+use Rattle.stream.specs.OneRecord.{fits, wholeInRange}
 use Rattle.stream.specs.Positions.{recordAt}
 use Rattle.stream.specs.Reading.{QueryFacts}
-use Rattle.stream.specs.Steps.{fits, wholeInRange}
 use Rattle.stream.proofs.Positions.{cut-here, number-byte, whole-here}
 
 -- ---- tests joined in another order

@@ -1,11 +1,11 @@
 pub mod Table
-pub mod Lengths
+pub mod LengthTable
 pub mod Positions
 pub mod EachRecord
 pub mod TreeSteps
 pub mod TreeReading
-pub mod Said
-pub mod Rules
+pub mod SaidAgain
+pub mod RuleSearch
 pub mod InRange
 pub mod QuerySteps
 pub mod QueryHead

@@ -15,8 +15,8 @@ use Rattle.laws.proofs.Answers.{refusal-told, refusalOf, told-apart}
 use Rattle.laws.proofs.Lists.{here}
 use Rattle.stream.specs.Positions.{NextRule, isRuleFor, recordAt}
 use Rattle.stream.specs.Reading.{QueryFacts, QueryRead, TreeFacts, TreeRead, queryReply, saysQuery, saysTree, treeReply}
-use Rattle.stream.specs.declared.QueryRead.the-variants as QueryReadIs
-use Rattle.stream.specs.declared.TreeRead.the-variants as TreeReadIs
+use Rattle.stream.specs.declared.head.QueryRead.the-variants as QueryReadIs
+use Rattle.stream.specs.declared.tree.TreeRead.the-variants as TreeReadIs
 use Rattle.stream.proofs.Positions.{records-here, records-none}
 
 -- ---- the readers

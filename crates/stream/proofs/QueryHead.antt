@@ -10,9 +10,9 @@ use lib.ListN.{getD, length}
 use Rattle.paper.specs.Query.{queryOf}
 use Rattle.paper.specs.Refusals.{answer, refused}
 use Rattle.paper.specs.Stream.{bodyLength, number, whole}
+use Rattle.stream.specs.OneRecord.{headReply}
 use Rattle.stream.specs.Positions.{recordAt}
 use Rattle.stream.specs.Reading.{QueryFacts, queryFacts}
-use Rattle.stream.specs.Steps.{headReply}
 use Rattle.stream.proofs.Positions.{cut-here, number-byte, records-here, whole-here}
 
 module _ (input : List ℕ) (at : ℕ) where

@@ -15,9 +15,9 @@ use Rattle.paper.specs.Refusals.{Test, answer, atEach, headTests, laterTests, q
 use Rattle.paper.specs.Stream.{StreamRecord, bodyLength, number, recordsOf}
 use Rattle.laws.proofs.Lists.{both-true, which}
 use Rattle.laws.proofs.Replies.{Passes, answered, answers, unless-append}
+use Rattle.stream.specs.OneRecord.{AtLaterRecord, QueryState, headReply, laterReply, queryStep, queryUpTo, queryWith}
 use Rattle.stream.specs.Positions.{WholeBetween, after, recordAt, recordsBetween}
 use Rattle.stream.specs.Reading.{QueryFacts, queryFacts, queryReply}
-use Rattle.stream.specs.Steps.{AtLaterRecord, QueryState, headReply, laterReply, queryStep, queryUpTo, queryWith}
 use Rattle.stream.proofs.EachRecord.{first-refused, passes-more, refused-append}
 use Rattle.stream.proofs.Positions.{between-more, records-between, records-here, records-none, whole-inside, whole-more, whole-none}
 
@@ -51,7 +51,7 @@ module _ (input : List ℕ) (f : QueryFacts) (s : QueryState) (k : QuerySoFar in
 
   module _ (here : s .at < length input) where
     pub at-record : f .arity ≤ 4 → AtLaterRecord input f s
-    at-record places = record { places = places; before = k .before; state = k .state; here = here }
+    at-record few = record { few-places = few; before = k .before; state = k .state; here = here }
 
     -- one more record that passes
     pub query-goes-on : (next : QueryState) → answer next ≡ queryStep input f (s .at) → QuerySoFar input f next × (s .at < next .at)

@@ -17,11 +17,11 @@ use Rattle.paper.specs.Stream.{StreamRecord, bodyLength, number, whole}
 use Rattle.laws.proofs.Lists.{both-true, or-cases}
 use Rattle.laws.proofs.ReadQuery.{rules-append}
 use Rattle.laws.proofs.StreamPlaces.{begins-with}
+use Rattle.stream.specs.OneRecord.{AtLaterRecord, QueryState, fits, isSaid, queryStep, queryUpTo, queryWith, wholeInRange}
 use Rattle.stream.specs.Positions.{after, recordAt, recordsBetween}
 use Rattle.stream.specs.Reading.{QueryFacts}
-use Rattle.stream.specs.Steps.{AtLaterRecord, QueryState, fits, isSaid, queryStep, queryUpTo, queryWith, wholeInRange}
 use Rattle.stream.proofs.Positions.{between-more, number-byte, whole-inside, word-here}
-use Rattle.stream.proofs.Said.{branch-said, leaf-said}
+use Rattle.stream.proofs.SaidAgain.{branch-said, leaf-said}
 
 -- ---- a record that fits
 -- three tests in a row that give one number

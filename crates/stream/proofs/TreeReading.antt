@@ -16,9 +16,9 @@ use Rattle.laws.specs.StreamCauses.{AllTree, written}
 use Rattle.laws.proofs.Lists.{both-true, here, which}
 use Rattle.laws.proofs.Replies.{Passes, answered}
 use Rattle.laws.proofs.StreamPlaces.{all-tree-snoc, tree-kind, tree-records-append}
+use Rattle.stream.specs.OneRecord.{AtTreeRecord, TreeState, isTreeAt, treeStep, treeUpTo}
 use Rattle.stream.specs.Positions.{WholeBetween, after, recordAt, recordsBetween}
 use Rattle.stream.specs.Reading.{TreeFacts, treeFacts, treeReply}
-use Rattle.stream.specs.Steps.{AtTreeRecord, TreeState, isTreeAt, treeStep, treeUpTo}
 use Rattle.stream.proofs.EachRecord.{all-passed, first-refused, passes-more}
 use Rattle.stream.proofs.Positions.{between-more, bytes-between, records-between, records-here, records-none}
 use Rattle.stream.proofs.Positions.{whole-inside, whole-more, whole-none}

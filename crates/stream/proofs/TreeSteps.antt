@@ -15,8 +15,8 @@ use Rattle.paper.specs.Tree.{Tree, grow, join, leaf, mostFrom, mostUnjoined, un
 use Rattle.laws.specs.StreamCauses.{TreeKind}
 use Rattle.laws.proofs.Lists.{both-true, or-left, or-right}
 use Rattle.laws.proofs.StreamPlaces.{join-length, tree-kind, unjoined-snoc}
+use Rattle.stream.specs.OneRecord.{AtTreeRecord, TreeState, treeStep, treeUpTo}
 use Rattle.stream.specs.Positions.{after, recordAt, recordsBetween}
-use Rattle.stream.specs.Steps.{AtTreeRecord, TreeState, treeStep, treeUpTo}
 use Rattle.stream.proofs.Positions.{between-more, cut-here, number-byte, whole-here}
 
 -- ---- subtrees unjoined

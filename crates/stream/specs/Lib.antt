@@ -1,3 +1,3 @@
 pub mod Positions
 pub mod Reading
-pub mod Steps
+pub mod OneRecord

@@ -7,12 +7,12 @@ use Rattle.paper.specs.Tree.{mostUnjoined}
 use Rattle.paper.specs.Query.{queryOf}
 use Rattle.paper.specs.Refusals.{Reply, refused, answer, unless, treePart, queryPart, nodesIn}
 use Rattle.paper.specs.Answers.{numberOf}
-pub use Rattle.stream.specs.declared.TreeFacts.{TreeFacts}
-pub use Rattle.stream.specs.declared.TreeRead.{TreeRead}
-use Rattle.stream.specs.declared.TreeRead.the-variants as TreeReadIs
-pub use Rattle.stream.specs.declared.QueryFacts.{QueryFacts}
-pub use Rattle.stream.specs.declared.QueryRead.{QueryRead}
-use Rattle.stream.specs.declared.QueryRead.the-variants as QueryReadIs
+pub use Rattle.stream.specs.declared.tree.TreeFacts.{TreeFacts}
+pub use Rattle.stream.specs.declared.tree.TreeRead.{TreeRead}
+use Rattle.stream.specs.declared.tree.TreeRead.the-variants as TreeReadIs
+pub use Rattle.stream.specs.declared.head.QueryFacts.{QueryFacts}
+pub use Rattle.stream.specs.declared.head.QueryRead.{QueryRead}
+use Rattle.stream.specs.declared.head.QueryRead.the-variants as QueryReadIs
 
 -- ---- the tree: where it ends, its nodes, and the most subtrees ever unjoined
 abbrev pub treeFacts : List ℕ → TreeFacts

@@ -1,5 +1,6 @@
 // The library for C: include/tarnsatchel.h says it in C. First the exported functions, each a straight line over the function of its
-// name; then the head's six numbers read and written; then each answer as a number.
+// name; then the head's six numbers read and written; then each answer as a number. Nothing is decided here but how an answer looks
+// from C, so each contract is that of the function below it, told in numbers (specs/Told.antt).
 ghost use mathlib.Core.Path.{_≡_};
 ghost use Rattle.paper.specs.Answers.{told, saysBuilt, saysCounted, saysFixed, saysMember, saysProjected, saysWritten};
 ghost use Rattle.tarnsatchel.specs.Told.{setKind, setRecord, headNumbers, setOf, headOf, code, listedNumber, Tells};
@@ -14,9 +15,12 @@ use paper::Record;
 use paper::Set;
 use paper::Written;
 
-// In every function: 0 is returned with an answer, else the refusal's number, and then an out parameter is as it was.
+// In every function: 0 is returned with an answer, else the refusal's number, and then an out parameter is as it was. From C a slice is
+// a pointer and how many elements stand behind it, and an array or a number that is lent is a pointer. That so many elements are there,
+// and that none is lent twice at once, is all that is asked of a caller (docs/PROMISES.md, 'What is believed').
 
-// Builds the set of a stream; `head` is its head's numbers.
+// Builds the set of a stream; `head` is its head's numbers. They are written with an answer only, so that a head from before is not
+// half overwritten by a build that was refused.
 #[no_mangle]
 pub extern "C" fn tarn_build(
     input: &[u8],
@@ -31,7 +35,7 @@ pub extern "C" fn tarn_build(
     tell_build(built, head)
 }
 
-// `rows` is how many rows are listed.
+// `rows` is how many rows are listed. The head is not trusted: it is read as any six numbers are, and tested with the table.
 #[no_mangle]
 pub extern "C" fn tarn_count(
     head: &[u16; 6],
@@ -47,7 +51,7 @@ pub extern "C" fn tarn_count(
     tell_count(counted, rows)
 }
 
-// `row` is the row of this number.
+// `row` is the row of this number, in its first entries, one a place. It needs no out parameter: the refusal says all else.
 #[no_mangle]
 pub extern "C" fn tarn_row(
     head: &[u16; 6],
@@ -64,7 +68,7 @@ pub extern "C" fn tarn_row(
     tell_row(written)
 }
 
-// `listed` is 1 if the row is listed, else 0.
+// `listed` is 1 if the row is listed, else 0: a byte, which every language that calls C has.
 #[no_mangle]
 pub extern "C" fn tarn_member(
     head: &[u16; 6],
@@ -81,7 +85,7 @@ pub extern "C" fn tarn_member(
     tell_member(member, listed)
 }
 
-// `marks` has 1 for each node that stands at the place in some row, else 0.
+// `marks` has 1 for each node that stands at the place in some row, else 0. Bytes behind the tree's nodes stay.
 #[no_mangle]
 pub extern "C" fn tarn_project(
     head: &[u16; 6],
@@ -98,7 +102,8 @@ pub extern "C" fn tarn_project(
     tell_project(projected)
 }
 
-// Fixes the place at the node, into `target`; `fixed` is the new head's numbers.
+// Fixes the place at the node, into `target`; `fixed` is the new head's numbers. The source and its head stay as they are, so that one
+// set can be narrowed in several ways.
 #[no_mangle]
 pub extern "C" fn tarn_fix(
     head: &[u16; 6],
@@ -117,7 +122,7 @@ pub extern "C" fn tarn_fix(
     tell_fix(answer, fixed)
 }
 
-// The head of six numbers.
+// The head of six numbers, whatever they are: nodes, arity, open places, records used, the kind of the set, its record.
 fn head_of(numbers: &[u16; 6]) -> Head
     ensures { λ h. ⌜ h ≡ headOf (now (numbers .entry)) ⌝ }
 {
@@ -131,10 +136,11 @@ fn head_of(numbers: &[u16; 6]) -> Head
     }
 }
 
-// No sound set uses a record of this number.
+// No sound set uses a record of this number, since at most 60,000 are used: a head with it is refused 11, or 5 before that.
 const NO_RECORD: u16 = 65535;
 
-// 0 empty, 1 unit, 2 the record; any other kind is no set, and every question on it is refused.
+// 0 empty, 1 unit, 2 the record; any other kind is no set, and every question on it is refused. It is not guessed at, and has no
+// refusal of its own: to the questions it is one more head that is not sound.
 fn set_of(kind: u16, number: u16) -> Set
     ensures { λ s. ⌜ s ≡ setOf kind number ⌝ }
 {
@@ -146,7 +152,7 @@ fn set_of(kind: u16, number: u16) -> Set
     }
 }
 
-// The six numbers of a head.
+// The six numbers of a head, which `head_of` reads back as the same head (proofs/HeadNumbers.antt).
 fn numbers_of(h: Head) -> [u16; 6]
     ensures { λ numbers. ⌜ numbers ≡ headNumbers h ⌝ }
 {
@@ -167,7 +173,7 @@ fn set_kind(set: Set) -> u16
     }
 }
 
-// The record's number, 0 for the others.
+// The record's number, 0 for the others, so that equal heads have equal numbers.
 fn set_record(set: Set) -> u16
     ensures { λ n. ⌜ n ≡ setRecord set ⌝ }
 {
@@ -178,6 +184,9 @@ fn set_record(set: Set) -> u16
     }
 }
 
+// ---- each answer as a number, with what is written in its out parameter
+
+// The refusal's number is above 0 for every refusal, so 0 is free to say that there is an answer.
 fn tell_build(built: Built, head: &mut [u16; 6]) -> u8
     ensures { λ n. ⌜ Tells (told headNumbers (saysBuilt built)) (now (head .entry)) n (now (head .exit)) ⌝ }
 {
@@ -190,6 +199,7 @@ fn tell_build(built: Built, head: &mut [u16; 6]) -> u8
     }
 }
 
+// The number of rows may be 0, which is an answer.
 fn tell_count(counted: Counted, rows: &mut u64) -> u8
     ensures { λ n. ⌜ Tells (saysCounted counted) (now (rows .entry)) n (now (rows .exit)) ⌝ }
 {
@@ -202,6 +212,7 @@ fn tell_count(counted: Counted, rows: &mut u64) -> u8
     }
 }
 
+// What is written is in the output already.
 fn tell_row(written: Written) -> u8
     ensures { λ n. ⌜ n ≡ code (saysWritten written) ⌝ }
 {
@@ -211,6 +222,7 @@ fn tell_row(written: Written) -> u8
     }
 }
 
+// Both answers are 0: a row that is not listed is no refusal.
 fn tell_member(member: Member, listed: &mut u8) -> u8
     ensures { λ n. ⌜ Tells (told listedNumber (saysMember member)) (now (listed .entry)) n (now (listed .exit)) ⌝ }
 {
@@ -227,6 +239,7 @@ fn tell_member(member: Member, listed: &mut u8) -> u8
     }
 }
 
+// As with a row.
 fn tell_project(projected: Projected) -> u8
     ensures { λ n. ⌜ n ≡ code (saysProjected projected) ⌝ }
 {
@@ -236,6 +249,7 @@ fn tell_project(projected: Projected) -> u8
     }
 }
 
+// As with a build.
 fn tell_fix(answer: Fixed, fixed: &mut [u16; 6]) -> u8
     ensures { λ n. ⌜ Tells (told headNumbers (saysFixed answer)) (now (fixed .entry)) n (now (fixed .exit)) ⌝ }
 {

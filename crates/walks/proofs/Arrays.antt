@@ -1,4 +1,4 @@
--- An array of the function's own, `[T; n]`, that it lends to calls. While the function has it, its elements stand in the context as one row. First
+-- An array of the function's own, `[T; n]`, that it lends to calls. While the function has it, its elements stand in the context as one run. First
 -- what an array may hold, then how it is made and given up, and the loans: as in `Lending.antt`, a step before the call and a step after it.
 -- Assumes `Given`.
 use mathlib.Core.Path.{_≡_, refl, sym, subst}
@@ -82,7 +82,7 @@ unfolding copies
 length-copies n x = length-replicate n x
 
 module _ {M : Type 1} (𝓤 : URA M) (H : Heap 𝓤) (A : Atoms 𝓤) (W : Given 𝓤 H A) (T : Element) (n l : ℕ) where
-  -- the array's cell, with what its elements own, is the row; and the row is room for the array
+  -- the array's cell, with what its elements own, is the run; and the run is room for the array
   array-in : (xs : List (T .type .Denot)) (us : List Val)
       → ent 𝓤 (sep 𝓤 (H .at fullShare (ArrayTy T n) l 0 (arrayVal us)) (sem 𝓤 H A (Array (T .type) n .own xs (arrayVal us ∷ []))))
       (sem 𝓤 H A (Elements T l xs))
@@ -107,7 +107,7 @@ module _ {M : Type 1} (𝓤 : URA M) (H : Heap 𝓤) (A : Atoms 𝓤) (W : Given
 
 module _ {M : Type 1} {𝓤 : URA M} {H : Heap 𝓤} {A : Atoms 𝓤} {W : Given 𝓤 H A} {Γ : List (Item 𝓤)} {E : Env 𝓤 H} {C : Calls 𝓤 H} {Λ : Loops 𝓤 H}
     {p : Post 𝓤 H} {c : Operand} {d : Place} {rest : Body} where
-  -- `_i = [x; n]`: the array's room, at the head of the context, becomes the row
+  -- `_i = [x; n]`: the array's room, at the head of the context, becomes the run
   pub makes-array : Go {0} → (T : Element) (n l : ℕ) (x : T .type .Denot) → Is (T .type) x (T .low x ∷ [])
       → Opd (Go {0}) W (‵ (froom (ArrayTy T n) l 0) ∷ Γ) E c (T .low x) → Finds (Go {0}) W (‵ (froom (ArrayTy T n) l 0) ∷ Γ) E d (ArrayTy T n, l, 0)
       → Step (Go {0}) W (‵ (Elements T l (copies n x)) ∷ Γ) (runs C Λ E rest p) (‵ (froom (ArrayTy T n) l 0) ∷ Γ)

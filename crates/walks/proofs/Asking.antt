@@ -20,7 +20,7 @@ use Rattle.walks.proofs.Steps.{number-typed, slice-typed, value, part, 
 use Rattle.walks.proofs.Parameters.{by-value, lent, shown, still, gone, goes-still, goes-gone, goes-shown}
 use Rattle.walks.proofs.Locals.{var, full, bare, locals, Blocks, envOf, enters, leaves, span}
 use Rattle.walks.proofs.Loops.{tests, Onward, whiles, again}
-use Rattle.walks.proofs.States.{Shape, Field, State, Row, StateTy, machine, state-tells, state-makes, state-typed, field-fits, nil, silent}
+use Rattle.walks.proofs.States.{Shape, Field, State, StateType, StateTy, machine, state-tells, state-makes, state-typed, field-fits, nil, silent}
 use Rattle.walks.proofs.States.{holds, fails}
 use Rattle.walks.proofs.Entries.{entry-place, Entry, EntryTy, vals, typed, place-fits, owns-entry, looks-table, entry-out, entry-back}
 use Rattle.walks.proofs.Calls.{contract, calls-last}
@@ -65,18 +65,18 @@ pub record Law (P : RattleType) (X : Shape) (at-field : Field X) : Type 1 where
 module _ (P : RattleType) (X : Shape) where
   abbrev pub next-ended : Ended
   next-ended = record {
-    signature = record { lifetimes = 1; outlives = []; params = by-value (Row X) ∷ by-value Entry ∷ lent 0 tt P ∷ []; result = by-value (Row X) };
+    signature = record { lifetimes = 1; outlives = []; params = by-value (StateType X) ∷ by-value Entry ∷ lent 0 tt P ∷ []; result = by-value (StateType X) };
     kept = (yes, (yes, (yes, tt)));
   }
 
   abbrev pub ended : Ended
   ended = record {
-    signature = record { lifetimes = 2; outlives = []; params = shown 0 tt Entry ∷ by-value (Row X) ∷ lent 1 tt P ∷ []; result = by-value (Row X) };
+    signature = record { lifetimes = 2; outlives = []; params = shown 0 tt Entry ∷ by-value (StateType X) ∷ lent 1 tt P ∷ []; result = by-value (StateType X) };
     kept = (yes, (yes, (yes, tt)));
   }
 
   abbrev stayed : Stays (ended .signature .params) (ended .kept)
-  stayed = (gone (shown 0 tt Entry), (gone (by-value (Row X)), (still 1 tt P, tt)))
+  stayed = (gone (shown 0 tt Entry), (gone (by-value (StateType X)), (still 1 tt P, tt)))
 
   -- what the loop is handed, of its three parameters
   abbrev Passed : Type 0
@@ -162,7 +162,7 @@ module _ (P : RattleType) (X : Shape) (at-field : Field X) (L : Law P X at-field
       abbrev Work : List (P .Denot) → Fml
       Work w = Mine P bʷ oʷ κʷ γʷ (length (x₀ .work)) w
 
-      exits : (x : Hand P X) → Is (Row X) (x .state) (machine X (x .state) ∷ []) → length (x .work) ≡ length (x₀ .work) → L .Asked ys x₀ x
+      exits : (x : Hand P X) → Is (StateType X) (x .state) (machine X (x .state) ∷ []) → length (x .work) ≡ length (x₀ .work) → L .Asked ys x₀ x
           → ent 𝓤 (⋆ 𝓤 H A (‵ (flft κ q) ∷ ‵ (Work (x .work)) ∷ ‵ (flft κʷ qʷ) ∷ [])) (Post (machine X (x .state)))
       exits x good l e =
           qed W (‵ (flft κ q) ∷ ‵ (Work (x .work)) ∷ ‵ (flft κʷ qʷ) ∷ []) ∵
@@ -170,27 +170,27 @@ module _ (P : RattleType) (X : Shape) (at-field : Field X) (L : Law P X at-field
           (machine X (x .state)) (x .state) (tt, (nil X (x₀ .state), (x .work, tt))) (tt, (tt, (l, tt)))) $ says ! e $
           nothing ! $ move ! (3 ∷ 0 ∷ []) $ join ! $ move ! (1 ∷ 0 ∷ []) $ join ! $ frame ! $
           nothing ! $ move ! (1 ∷ 0 ∷ []) $ fjoin ! $ nothing ! $ fjoin ! $ nothing ! $ fjoin ! $ frame ! $
-          owned ! (Row X) (Is (Row X)) (state-makes X 𝓤 H A) (x .state) (machine X (x .state) ∷ []) good $ done !
+          owned ! (StateType X) (Is (StateType X)) (state-makes X 𝓤 H A) (x .state) (machine X (x .state) ∷ []) good $ done !
 
       -- ---- the call
       abbrev to-next : State X → Record → List (P .Denot) → ℕ → GName → Next .Ghost
       to-next s r w ν δ = (((ν ∷ [], tt), (fullShare, tt), tt, (s, (r, (at-list P bʷ oʷ δ w, tt))), (machine X s ∷ [], (vals r, (work-slice ∷ [], tt)))), tt)
 
-      goes : (s : State X) → Is (Row X) s (machine X s ∷ []) → (r : Record) → Is Entry r (vals r) → (w : List (P .Denot)) → L .Ask s r w
+      goes : (s : State X) → Is (StateType X) s (machine X s ∷ []) → (r : Record) → Is Entry r (vals r) → (w : List (P .Denot)) → L .Ask s r w
           → (ν : ℕ) (δ : GName)
           → ent 𝓤 (⋆ 𝓤 H A (‵ (flft (ν ∷ []) fullShare) ∷ ‵ (Mine P bʷ oʷ (ν ∷ []) δ (length (x₀ .work)) w) ∷ [])) (Next .pre (to-next s r w ν δ))
       goes s good r good′ w ask ν δ =
           qed W (‵ (flft (ν ∷ []) fullShare) ∷ ‵ (Mine P bʷ oʷ (ν ∷ []) δ (length (x₀ .work)) w) ∷ []) ∵ says ! ask $ nothing ! $
           move ! (1 ∷ 0 ∷ []) $ join ! $ frame ! $
           nothing ! $ move ! (1 ∷ 0 ∷ []) $ fjoin ! $ owns-entry ! r good′ $ fjoin ! $
-          owned ! (Row X) (Is (Row X)) (state-makes X 𝓤 H A) s (machine X s ∷ []) good $ fjoin ! $ done !
+          owned ! (StateType X) (Is (StateType X)) (state-makes X 𝓤 H A) s (machine X s ∷ []) good $ fjoin ! $ done !
 
       -- ---- the loop
       abbrev Good : Hand P X → Type 0
-      Good x = Is (Row X) (x .state) (machine X (x .state) ∷ []) × ((length (x .work) ≡ length (x₀ .work)) × L .Before ys x₀ x)
+      Good x = Is (StateType X) (x .state) (machine X (x .state) ∷ []) × ((length (x .work) ≡ length (x₀ .work)) × L .Before ys x₀ x)
 
       module _ (π : Ty) (k : Name) (𝓣 : Tables 𝓤 H) (known : Triple 𝓤 (𝓣 .C k) Next) (table-room : Room Entry (length ys))
-          (state-good : Is (Row X) (x₀ .state) (machine X (x₀ .state) ∷ [])) (work-room : Room P (length (x₀ .work))) where
+          (state-good : Is (StateType X) (x₀ .state) (machine X (x₀ .state) ∷ [])) (work-room : Room P (length (x₀ .work))) where
         abbrev loop-code : Fn
         loop-code = function P π X at-field k
 
@@ -279,7 +279,7 @@ module _ (P : RattleType) (X : Shape) (at-field : Field X) (L : Law P X at-field
             (WpFn 𝓤 H (𝓣 .C) (𝓣 .Λ) loop-code (table-slice ∷ machine X (x₀ .state) ∷ work-slice ∷ []) Post)
         walk ready =
             qed W ((‵ (flft κ q) ⊛ ‵ (flft κʷ qʷ) ⊛ ‵ ftrue)
-            ∷ ‵ (owns (ShrSlice (named 0) κ Entry ∷ Row X ∷ MutSlice (named 1) κʷ P ∷ []) passed machines) ∷ []) ∵
+            ∷ ‵ (owns (ShrSlice (named 0) κ Entry ∷ StateType X ∷ MutSlice (named 1) κʷ P ∷ []) passed machines) ∷ []) ∵
             enters ! (𝓣 .C) (𝓣 .Λ) loop-code (table-slice ∷ machine X (x₀ .state) ∷ work-slice ∷ []) Post
             (λ bs. (slice-typed (table-room .0), (state-typed X W (x₀ .state) state-good, (slice-typed (work-room .0), tt)))) (λ bs.
             -- [local j at 2 * j; the tokens; what the parameters own]
@@ -306,5 +306,5 @@ module _ (P : RattleType) (X : Shape) (at-field : Field X) (L : Law P X at-field
       pub asking-meets : Meets 𝓤 H A (ended P X .signature) runs-it (closing 𝓤 H A (ended P X) clauses)
       asking-meets =
           walk-meets 𝓤 H A (ended P X) (stayed P X) W
-          (goes-shown W 2 0 tt Entry, (goes-gone W 2 (by-value (Row X)) (λ κs. silent X), (goes-still W 2 1 tt P, tt)))
+          (goes-shown W 2 0 tt Entry, (goes-gone W 2 (by-value (StateType X)) (λ κs. silent X), (goes-still W 2 1 tt P, tt)))
           clauses runs-it (WpFn-mono 𝓤 H (W .laws) 𝓣 (function P π X at-field k)) asking-walks

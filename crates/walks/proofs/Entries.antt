@@ -1,5 +1,5 @@
 -- The entries of the lent table, ten bytes each, as steps of a walk: `Denote/Index.antt`'s, at `paper::Record`. First a record's types and values,
--- then where an entry lies, and how it is taken out of the row of entries and put back, as it was or as another.
+-- then where an entry lies, and how it is taken out of the run of entries and put back, as it was or as another.
 -- Assumes `Given`.
 use mathlib.Core.Path.{_≡_, refl, sym, ap}
 use Prim.Native.Nat.{ℕ, _<_, _+_, _*_, _^_}

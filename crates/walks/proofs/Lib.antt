@@ -5,9 +5,12 @@ pub mod Loops
 pub mod Parameters
 pub mod Calls
 pub mod Lending
-pub mod Arrays
 pub mod Entries
+pub mod Arrays
 pub mod States
 pub mod Values
 pub mod Asking
+pub mod Storing
+pub mod Building
+pub mod Copying
 pub mod Outputs

@@ -53,11 +53,12 @@ pub record Field (X : Shape) : Type 0 where
   pub is : (s : X .type .D) → getV (valuesOf (X .type) (X .laws) s) number ≡ vint w64 (value s)
 
 module _ (X : Shape) where
+  -- the state: its values, its type in Rattle, and its type in MIR
   abbrev pub State : Type 0
   State = X .type .D
 
-  abbrev pub Row : RattleType
-  Row = row (X .type)
+  abbrev pub StateType : RattleType
+  StateType = row (X .type)
 
   abbrev pub StateTy : Ty
   StateTy = tyStruct (X .type .name) (typesOf (X .type))
@@ -65,20 +66,20 @@ module _ (X : Shape) where
   abbrev pub machine : State → Val
   machine s = vstruct (valuesOf (X .type) (X .laws) s)
 
-  pub state-tells : Tells Row (Is Row) (λ s. machine s ∷ [])
+  pub state-tells : Tells StateType (Is StateType) (λ s. machine s ∷ [])
   state-tells = LL.tells (X .type) (X .laws)
 
-  pub state-makes : {M : Type 1} (𝓤 : URA M) (H : Heap 𝓤) (A : Atoms 𝓤) → Makes 𝓤 H A Row (Is Row)
+  pub state-makes : {M : Type 1} (𝓤 : URA M) (H : Heap 𝓤) (A : Atoms 𝓤) → Makes 𝓤 H A StateType (Is StateType)
   state-makes 𝓤 H A = LL.makes (X .type) (X .plains) 𝓤 H A
 
   -- of a state that is passed nothing is bound at exit, and nothing is said
-  pub nil : (s : State) → Last (Row .exit yes) s
+  pub nil : (s : State) → Last (StateType .exit yes) s
   nil s = subst (λ (e : Exit State). Last e s) (sym (LL.still (X .type) (X .copies) yes)) tt
 
-  pub silent : (s : State) (f : Last (Row .exit yes) s) → left (Row .exit yes) s f ≡ ftrue
+  pub silent : (s : State) (f : Last (StateType .exit yes) s) → left (StateType .exit yes) s f ≡ ftrue
   silent s = subst (λ (e : Exit State). (f : Last e s) → left e s f ≡ ftrue) (sym (LL.still (X .type) (X .copies) yes)) (λ f. refl)
 
-  module _ {M : Type 1} {𝓤 : URA M} {H : Heap 𝓤} {A : Atoms 𝓤} (W : Given 𝓤 H A) (s : State) (good : Is Row s (machine s ∷ [])) where
+  module _ {M : Type 1} {𝓤 : URA M} {H : Heap 𝓤} {A : Atoms 𝓤} (W : Given 𝓤 H A) (s : State) (good : Is StateType s (machine s ∷ [])) where
     pub state-typed : Typed StateTy (machine s)
     state-typed = LL.lawful (X .type) (X .laws) 𝓤 H A W .typed s (machine s ∷ []) good .0
 

@@ -1,2 +1,3 @@
-// Laws of walks: a function that holds a lent slice of structs is proved by following its code by hand, and what such walks have in common
-// stands in proofs/, one law for each shape of function. No code.
+// Laws of walks, and no code: a function that holds a lent slice of structs is proved by following its code by hand. In the order of reading,
+// proofs/ has the kit's names (Prelude), what walks are made of (Steps, Locals, Loops, Parameters, Calls, Lending, Entries, Arrays, States,
+// Values), and a law for each shape of function (Asking; Storing, for Building and Copying; Outputs).

@@ -41,24 +41,26 @@ use Rattle.paper.proofs.Built.Laws as B′
 use Rattle.paper.proofs.Refusal as R
 use Rattle.paper.proofs.Refusal.Laws as R′
 use Rattle.building.specs.Batch.{Record}
+use Rattle.building.specs.Bounds.{batchNumbers}
 use Rattle.building.specs.Standing.{State}
 use Rattle.building.specs.Driving.{Ready, Driven}
-use Rattle.building.specs.Whole.{Begun, Begins, Started, Ended, Finishes}
-use Rattle.building.specs.declared.whole.Begun.the-variants as BegunIs
+use Rattle.building.specs.Start.{Begun, Begins, Started}
+use Rattle.building.specs.Answer.{Ended, Finishes}
+use Rattle.building.specs.declared.start.Begun.the-variants as BegunIs
 use Rattle.building.specs.Face.{Builds}
 use Rattle.building.proofs.StateShape.{shape}
 use Rattle.building.proofs.Facing.{refused-face, ready, ending, whole-face, over-face}
 use Rattle.building.proofs.state.State as S
-use Rattle.building.proofs.whole.Begun as G
-use Rattle.building.proofs.whole.Begun.Laws as G′
-use Rattle.building.proofs.whole.begin as begin
-use Rattle.building.proofs.whole.begin.Symbol as begin-def
-use Rattle.building.proofs.whole.begin.Symbol.{name as #begin}
-use Rattle.building.proofs.whole.begin.Met as begin-thm
-use Rattle.building.proofs.whole.finish as finish′
-use Rattle.building.proofs.whole.finish.Symbol as finish-def
-use Rattle.building.proofs.whole.finish.Symbol.{name as #finish}
-use Rattle.building.proofs.whole.finish.Met as finish-thm
+use Rattle.building.proofs.start.Begun as G
+use Rattle.building.proofs.start.Begun.Laws as G′
+use Rattle.building.proofs.start.begin as begin
+use Rattle.building.proofs.start.begin.Symbol as begin-def
+use Rattle.building.proofs.start.begin.Symbol.{name as #begin}
+use Rattle.building.proofs.start.begin.Met as begin-thm
+use Rattle.building.proofs.answer.finish as finish′
+use Rattle.building.proofs.answer.finish.Symbol as finish-def
+use Rattle.building.proofs.answer.finish.Symbol.{name as #finish}
+use Rattle.building.proofs.answer.finish.Met as finish-thm
 use Rattle.building.proofs.drive as drive
 use Rattle.building.proofs.drive.Symbol as drive-def
 use Rattle.building.proofs.drive.Symbol.{name as #drive}
@@ -177,22 +179,22 @@ module _ {M : Type 1} (𝓤 : URA M) (H : Heap 𝓤) (A : Atoms 𝓤) (W : Given
         (ν ∷ [], (κⁱ, (νʷ ∷ [], (νᵇ ∷ [], tt)))),
         (fullShare, (qⁱ, (fullShare, (fullShare, tt)))),
         tt,
-        (at-list Entry b o δ table, (at-list u8 bⁱ oⁱ γⁱ input, (s, (at-list u64 bʷ oʷ δʷ w, (at-list u16 l 0 δᵇ (copies 3240 0), tt))))),
-        (table-slice ∷ [], (input-slice ∷ [], (machine shape s ∷ [], (work-slice ∷ [], (sliceVal (l, 0) 3240 ∷ [], tt))))),
+        (at-list Entry b o δ table, (at-list u8 bⁱ oⁱ γⁱ input, (s, (at-list u64 bʷ oʷ δʷ w, (at-list u16 l 0 δᵇ (copies batchNumbers 0), tt))))),
+        (table-slice ∷ [], (input-slice ∷ [], (machine shape s ∷ [], (work-slice ∷ [], (sliceVal (l, 0) batchNumbers ∷ [], tt))))),
       ),
       tt,
     )
 
-    goes-drive : (s : State) → Is S.the-row s (machine shape s ∷ []) → (w : List ℕ) (l : ℕ) → Ready input table s w (copies 3240 0)
+    goes-drive : (s : State) → Is S.the-row s (machine shape s ∷ []) → (w : List ℕ) (l : ℕ) → Ready input table s w (copies batchNumbers 0)
         → (ν : ℕ) (δ : GName) (νʷ : ℕ) (δʷ : GName) (νᵇ : ℕ) (δᵇ : GName)
         → ent 𝓤 (⋆ 𝓤 H A (‵ (flft (ν ∷ []) fullShare) ∷ ‵ (flft κⁱ qⁱ) ∷ ‵ (flft (νʷ ∷ []) fullShare) ∷ ‵ (flft (νᵇ ∷ []) fullShare)
         ∷ ‵ (Mine Entry b o (ν ∷ []) δ (length table) table) ∷ ‵ Input ∷ ‵ (Mine u64 bʷ oʷ (νʷ ∷ []) δʷ (length work) w)
-        ∷ ‵ (Mine u16 l 0 (νᵇ ∷ []) δᵇ 3240 (copies 3240 0)) ∷ []))
+        ∷ ‵ (Mine u16 l 0 (νᵇ ∷ []) δᵇ batchNumbers (copies batchNumbers 0)) ∷ []))
         (Drive .pre (to-drive s w l ν δ νʷ δʷ νᵇ δᵇ))
     goes-drive s good w l ok ν δ νʷ δʷ νᵇ δᵇ =
         qed W (‵ (flft (ν ∷ []) fullShare) ∷ ‵ (flft κⁱ qⁱ) ∷ ‵ (flft (νʷ ∷ []) fullShare) ∷ ‵ (flft (νᵇ ∷ []) fullShare)
         ∷ ‵ (Mine Entry b o (ν ∷ []) δ (length table) table) ∷ ‵ Input ∷ ‵ (Mine u64 bʷ oʷ (νʷ ∷ []) δʷ (length work) w)
-        ∷ ‵ (Mine u16 l 0 (νᵇ ∷ []) δᵇ 3240 (copies 3240 0)) ∷ []) ∵
+        ∷ ‵ (Mine u16 l 0 (νᵇ ∷ []) δᵇ batchNumbers (copies batchNumbers 0)) ∷ []) ∵
         says ! ok $ nothing ! $ move ! (4 ∷ 0 ∷ []) $ join ! $ move ! (3 ∷ 0 ∷ []) $ join ! $ move ! (2 ∷ 0 ∷ []) $ join ! $ move ! (1 ∷ 0 ∷ []) $
         join ! $ frame ! $
         nothing ! $ move ! (4 ∷ 0 ∷ []) $ fjoin ! $ move ! (3 ∷ 0 ∷ []) $ fjoin ! $
@@ -268,7 +270,7 @@ module _ {M : Type 1} (𝓤 : URA M) (H : Heap 𝓤) (A : Atoms 𝓤) (W : Given
         Driven-context s e answer more w t = ‵ (Table t) ∷ ‵ (flft κ q) ∷ ‵ (Work w) ∷ ‵ (flft κʷ qʷ) ∷ ‵ (flft κⁱ qⁱ)
             ∷ locals env (bare ∷ full input-slice ∷ full work-slice ∷ full table-slice ∷ full (vint w64 (length table)) ∷ bare ∷ full (machine shape s)
             ∷ bare ∷ full (machine shape e) ∷ answer ∷ full (G′.lowered (BegunIs.Going s)) ∷ full (vptr bʷ oʷ) ∷ full work-slice ∷ bare
-            ∷ full (vptr b o) ∷ full table-slice ∷ full (vptr bʷ oʷ) ∷ full work-slice ∷ full (vptr batch-block 0) ∷ full (sliceVal (batch-block, 0) 3240)
+            ∷ full (vptr b o) ∷ full table-slice ∷ full (vptr bʷ oʷ) ∷ full work-slice ∷ full (vptr batch-block 0) ∷ full (sliceVal (batch-block, 0) batchNumbers)
             ∷ more) []
 
         -- the answer is returned
@@ -361,7 +363,7 @@ module _ {M : Type 1} (𝓤 : URA M) (H : Heap 𝓤) (A : Atoms 𝓤) (W : Given
                 (λ h.
                     sets ! 18 refl (of-opd ! (load ! (from ! (vrt ! refl (fld ! refl (stop !)))) (look-in ! 26 (in-variant ! 0 0 refl refl (whole !)))))
                     (state-typed shape W s (state-good s good)) $
-                    move ! (20 ∷ []) $ makes-array ! (numbers w16) 3240 batch-block 0 (refl, lit< tt) (lit ! tt) (from ! (stop !)) $
+                    move ! (20 ∷ []) $ makes-array ! (numbers w16) batchNumbers batch-block 0 (refl, lit< tt) (lit ! tt) (from ! (stop !)) $
                     -- [the batch; the table; its token; the work; its token; the input; its token; local j at 7 + 2 * j, for j below 7; that 7 dies; local j at 6 + 2 * j]
                     sets ! 34 refl (elements ! 13 refl refl refl refl) (tt, tt) $
                     sets ! 36 refl (agg ! (and-then ! (value ! 34 refl) (and-then ! (part ! 13 refl refl refl) (no-more !)))) (slice-typed (table-room .0)) $
@@ -371,7 +373,7 @@ module _ {M : Type 1} (𝓤 : URA M) (H : Heap 𝓤) (A : Atoms 𝓤) (W : Given
                     sets ! 44 refl (agg ! (and-then ! (value ! 42 refl) (and-then ! (big-lit (record { fits = lit< tt })) (no-more !)))) (slice-typed (lit< tt)) $
                     move ! (1 ∷ 2 ∷ []) $ lends ! tt Entry b o table (length table) refl (λ ν δ.
                     move ! (5 ∷ 6 ∷ []) $ lends ! tt u64 bʷ oʷ w (length work) long (λ νʷ δʷ.
-                    move ! (8 ∷ []) $ lends-array ! tt (numbers w16) batch-block (copies 3240 0) 3240 (lit< tt, lit< tt) (length-copies {X = ℕ} 3240 0) (λ νᵇ δᵇ.
+                    move ! (8 ∷ []) $ lends-array ! tt (numbers w16) batch-block (copies batchNumbers 0) batchNumbers (lit< tt, lit< tt) (length-copies {X = ℕ} batchNumbers 0) (λ νᵇ δᵇ.
                     move ! (7 ∷ 12 ∷ 3 ∷ 0 ∷ 8 ∷ 11 ∷ 4 ∷ 1 ∷ []) $ group ! 8 $
                     use1 W (raw (Drive .pre (to-drive s w batch-block ν δ νʷ δʷ νᵇ δᵇ)))
                     (goes-drive s (state-good s good) w batch-block (first-ready s w e) ν δ νʷ δʷ νᵇ δᵇ) $
@@ -387,9 +389,9 @@ module _ {M : Type 1} (𝓤 : URA M) (H : Heap 𝓤) (A : Atoms 𝓤) (W : Given
                     move ! (1 ∷ []) $ fsplit ! $ fsplit ! $ move ! (1 ∷ []) $ feqL ! (λ batch-long.
                     move ! (7 ∷ 3 ∷ 12 ∷ 13 ∷ []) $ has-back ! tt Entry b o table (us .0) (length table) table-room refl table-long $
                     move ! (5 ∷ 4 ∷ 10 ∷ 11 ∷ []) $ has-back ! tt u64 bʷ oʷ w (us .1 .1 .1 .0) (length work) work-room long (work-long ∙ long) $
-                    move ! (6 ∷ 4 ∷ 9 ∷ []) $ array-back ! tt (numbers w16) batch-block (copies 3240 0) (us .1 .1 .1 .1 .0) $
-                    use1 W (‵ (froom (ArrayTy (numbers w16) 3240) batch-block 0)) (array-room 𝓤 H A W (numbers w16) 3240 batch-block
-                    (us .1 .1 .1 .1 .0) (batch-long ∙ length-copies {X = ℕ} 3240 0)) $
+                    move ! (6 ∷ 4 ∷ 9 ∷ []) $ array-back ! tt (numbers w16) batch-block (copies batchNumbers 0) (us .1 .1 .1 .1 .0) $
+                    use1 W (‵ (froom (ArrayTy (numbers w16) batchNumbers) batch-block 0)) (array-room 𝓤 H A W (numbers w16) batchNumbers batch-block
+                    (us .1 .1 .1 .1 .0) (batch-long ∙ length-copies {X = ℕ} batchNumbers 0)) $
                     -- [the table; its token; the work; its token; the input's token; local j at 5 + 2 * j]
                     keep ! (3 ∷ 4 ∷ 1 ∷ 2 ∷ 7 ∷ span 8 14 ++ (0 ∷ span 22 37)) $
                     land ! (from ! (stop !)) (init ! 21 refl (state-typed shape W e₂ good₂)) $
@@ -398,8 +400,8 @@ module _ {M : Type 1} (𝓤 : URA M) (H : Heap 𝓤) (A : Atoms 𝓤) (W : Given
               ),
             )
           where
-            first-ready : (s : State) (w : List ℕ) → Started input work (length table) s w → Ready input table s w (copies 3240 0)
-            first-ready s w e = ready input work table s w e (copies 3240 0) (subst (λ (n : ℕ). 3240 ≤ n) (sym (length-copies {X = ℕ} 3240 0)) (omega arith))
+            first-ready : (s : State) (w : List ℕ) → Started input work (length table) s w → Ready input table s w (copies batchNumbers 0)
+            first-ready s w e = ready input work table s w e (copies batchNumbers 0) (subst (λ (n : ℕ). batchNumbers ≤ n) (sym (length-copies {X = ℕ} batchNumbers 0)) (omega arith))
 
         arms : (g : Begun) (w : List ℕ) → Is G.the-row g (G′.lowered g ∷ []) → length w ≡ length work → Begins input work (length table) g w
             → Sq W (Begun-context g w) (runs (𝓣 .C) (𝓣 .Λ) env body.t-5 (atRet env Post))
@@ -445,8 +447,8 @@ build-spec 𝓤 H 𝓜 𝓖 𝓡 =
     (walk 𝓤 H (𝓖 .A) (givenOf 𝓤 H 𝓜 𝓖) (𝓜 .mem) (𝓡 .run) (κs .0) (κs .1 .0) (κs .1 .1 .0) (qs .0) (qs .1 .0) (qs .1 .1 .0)
     (a .0 .ptr .0) (a .0 .ptr .1) (a .0 .name) (a .0 .now) (a .1 .0 .ptr .0) (a .1 .0 .ptr .1) (a .1 .0 .name) (a .1 .0 .now)
     (a .1 .1 .0 .ptr .0) (a .1 .1 .0 .ptr .1) (a .1 .1 .0 .name) (a .1 .1 .0 .now) (tablesOf 𝓤 H 𝓜 (tables 𝓤 H 𝓜 𝓡 code.env))
-    (cited 𝓤 H (Begin 𝓤 H (𝓖 .A) (givenOf 𝓤 H 𝓜 𝓖) (𝓜 .mem) (𝓡 .run)) 𝓜 𝓡 code.env #begin begin-def.routine code.calls-building·whole·begin (begin-thm.met 𝓤 H 𝓜 𝓖 𝓡))
+    (cited 𝓤 H (Begin 𝓤 H (𝓖 .A) (givenOf 𝓤 H 𝓜 𝓖) (𝓜 .mem) (𝓡 .run)) 𝓜 𝓡 code.env #begin begin-def.routine code.calls-building·start·begin (begin-thm.met 𝓤 H 𝓜 𝓖 𝓡))
     (cited 𝓤 H (Drive 𝓤 H (𝓖 .A) (givenOf 𝓤 H 𝓜 𝓖) (𝓜 .mem) (𝓡 .run)) 𝓜 𝓡 code.env #drive drive-def.routine code.calls-building·drive (drive-thm.met 𝓤 H 𝓜 𝓖 𝓡))
-    (cited 𝓤 H (Finish 𝓤 H (𝓖 .A) (givenOf 𝓤 H 𝓜 𝓖) (𝓜 .mem) (𝓡 .run)) 𝓜 𝓡 code.env #finish finish-def.routine code.calls-building·whole·finish (finish-thm.met 𝓤 H 𝓜 𝓖 𝓡))
+    (cited 𝓤 H (Finish 𝓤 H (𝓖 .A) (givenOf 𝓤 H 𝓜 𝓖) (𝓜 .mem) (𝓡 .run)) 𝓜 𝓡 code.env #finish finish-def.routine code.calls-building·answer·finish (finish-thm.met 𝓤 H 𝓜 𝓖 𝓡))
     (cited 𝓤 H (Blank 𝓤 H (𝓖 .A) (givenOf 𝓤 H 𝓜 𝓖) (𝓜 .mem) (𝓡 .run)) 𝓜 𝓡 code.env #table·blank blank-def.routine code.calls-table·blank (blank-thm.met 𝓤 H 𝓜 𝓖 𝓡))
     (are .0 .0 .1) (are .1 .0 .0 .1) (are .1 .1 .0 .0 .1)))

@@ -1,4 +1,4 @@
--- `building::drive` meets its contract: an instance of the law of the building loop (`table`). What stands here is of plain values.
+-- `building::drive` meets its contract: an instance of the law of the building loop (`walks`). What stands here is of plain values.
 -- Assumes nothing.
 use mathlib.Core.Bool.{true, false, true≢false}
 use mathlib.Core.List.{List, [], _++_}
@@ -13,18 +13,20 @@ use denote.Triple.Spec.{tripleOf}
 use denote.Triple.Table.{entered, cited}
 use Rattle.paper.specs.Refusals.{over}
 use Rattle.table.specs.Batch.{stored}
-use Rattle.table.proofs.Building.{Hand, Law, Step, Store, building-meets, turned}
+use Rattle.table.proofs.Batches.{storer}
 use Rattle.table.proofs.store.Symbol as store-def
 use Rattle.table.proofs.store.Symbol.{name as #table·store}
 use Rattle.table.proofs.store.Met as store-thm
+use Rattle.walks.proofs.Building.{Hand, Law, Step, Store, building-meets, turned}
+use Rattle.building.specs.Bounds.{batchNumbers}
 use Rattle.building.specs.Batch.{Record, recordsIn}
 use Rattle.building.specs.Standing.{State, Standing, Stopped, Stepped, IsStanding, Turned, turnsLeft}
 use Rattle.building.specs.Driving.{Ready, Driven}
 use Rattle.building.proofs.Storing.{stored-behind}
 use Rattle.building.proofs.StateShape.{shape, from-field, count-field}
-use Rattle.building.proofs.step.step.Symbol as step-def
-use Rattle.building.proofs.step.step.Symbol.{name as #step}
-use Rattle.building.proofs.step.step.Met as step-thm
+use Rattle.building.proofs.filling.step.Symbol as step-def
+use Rattle.building.proofs.filling.step.Symbol.{name as #step}
+use Rattle.building.proofs.filling.step.Met as step-thm
 use Rattle.building.proofs.drive.Key.{name as #drive}
 use Rattle.building.proofs.drive as drive
 use Rattle.building.proofs.drive.Statement as stated
@@ -35,7 +37,7 @@ Held = Hand u64 shape
 
 -- what a turn leaves
 abbrev after : Held → State → List ℕ → List ℕ → Held
-after x s w b = turned u64 shape from-field count-field (x .table) s w b
+after x s w b = turned u64 shape storer from-field count-field (x .table) s w b
 
 -- ---- before each turn
 -- the records made are the table's first ones, and the building goes on from them, or has stopped with them
@@ -44,7 +46,7 @@ record Before (input : List ℕ) (x₀ x : Held) : Type 0 where
   limit : x .state .limit ≡ x₀ .state .limit
   asked : x .state .asked ≡ x₀ .state .asked
   entries : x₀ .state .limit ≤ length (x₀ .table)
-  room : 3240 ≤ length (x₀ .batch)
+  room : batchNumbers ≤ length (x₀ .batch)
   written : x .table ≡ over made (x₀ .table)
   kept : drop (x₀ .state .asked) (x .work) ≡ drop (x₀ .state .asked) (x₀ .work)
   goes : x .state .going ≡ true → Standing input (x .state) (x .work) made
@@ -100,9 +102,9 @@ stops input x₀ x before stopped = record {
   kept = before .kept;
 }
 
-abbrev law : Law u64 shape from-field count-field
+abbrev law : Law u64 shape storer from-field count-field
 law = record {
-  Ask = λ i s w b. IsStanding i s w × (3240 ≤ length b);
+  Ask = λ i s w b. IsStanding i s w × (batchNumbers ≤ length b);
   Tell = λ i s w b s′ w′ b′. Turned i s w s′ w′ b′;
   Ready = λ i x. Ready i (x .table) (x .state) (x .work) (x .batch);
   Built = λ i x y. Driven i (x .table) (x .state) (x .work) (y .table) (y .state) (y .work);
@@ -119,9 +121,9 @@ unfolding code.routine tablesOf
 drive-spec 𝓤 H 𝓜 𝓖 𝓡 =
     entered 𝓤 H (tripleOf 𝓤 H (𝓖 .A) drive.signature (drive.spec 𝓤 H (𝓖 .A) (𝓜 .mem) (𝓡 .run)))
     (tables 𝓤 H 𝓜 𝓡 code.env .C) (tables 𝓤 H 𝓜 𝓡 code.env .Λ) #drive code.function (code.unfolded 𝓤 H 𝓜 𝓡)
-    (building-meets u64 shape from-field count-field law 𝓤 H (𝓖 .A) (𝓜 .mem) (𝓡 .run) (givenOf 𝓤 H 𝓜 𝓖) (tyInt w64) #step #table·store
+    (building-meets u64 shape storer from-field count-field law 𝓤 H (𝓖 .A) (givenOf 𝓤 H 𝓜 𝓖) (tyInt w64) #step #table·store
     (tablesOf 𝓤 H 𝓜 (tables 𝓤 H 𝓜 𝓡 code.env))
-    (cited 𝓤 H (Step u64 shape from-field count-field law 𝓤 H (𝓖 .A) (𝓜 .mem) (𝓡 .run)) 𝓜 𝓡 code.env #step step-def.routine
-    code.calls-building·step·step (step-thm.met 𝓤 H 𝓜 𝓖 𝓡))
-    (cited 𝓤 H (Store u64 shape from-field count-field law 𝓤 H (𝓖 .A) (𝓜 .mem) (𝓡 .run)) 𝓜 𝓡 code.env #table·store store-def.routine
+    (cited 𝓤 H (Step u64 shape storer from-field count-field law 𝓤 H (𝓖 .A)) 𝓜 𝓡 code.env #step step-def.routine
+    code.calls-building·filling·step (step-thm.met 𝓤 H 𝓜 𝓖 𝓡))
+    (cited 𝓤 H (Store storer 𝓤 H (𝓖 .A)) 𝓜 𝓡 code.env #table·store store-def.routine
     code.calls-table·store (store-thm.met 𝓤 H 𝓜 𝓖 𝓡)))

@@ -1,4 +1,4 @@
--- `fix::records` meets its contract: an instance of the law of a loop that copies (`table`). What stands here is of plain values.
+-- `fix::records` meets its contract: an instance of the law of a loop that copies (`walks`). What stands here is of plain values.
 -- Assumes nothing.
 use mathlib.Core.Bool.{false, true, true≢false}
 use mathlib.Core.List.{List, _++_, append-nil}
@@ -19,11 +19,11 @@ use Rattle.laws.proofs.Lists.{which}
 use Rattle.paper.specs.Refusals.{over}
 use Rattle.paper.specs.Sound.{entry}
 use Rattle.table.specs.Batch.{recordsIn, stored}
-use Rattle.table.proofs.Batches.{length-records}
-use Rattle.table.proofs.Copying.{Hand, Law, Next, Store, copying-meets, turned}
+use Rattle.table.proofs.Batches.{length-records, storer}
 use Rattle.table.proofs.store.Symbol as store-def
 use Rattle.table.proofs.store.Symbol.{name as #table·store}
 use Rattle.table.proofs.store.Met as store-thm
+use Rattle.walks.proofs.Copying.{Hand, Law, Next, Store, copying-meets, turned}
 use Rattle.fix.specs.Sets.{Record, setNumber}
 use Rattle.fix.specs.States.{State, passed}
 use Rattle.fix.specs.Turns.{Recorded, Turning, Writes}
@@ -167,12 +167,12 @@ module _ (source : List Record) (x₀ x : Held) (before : Before source x₀ x) 
         ∙ ap (λ (all : List Record). over all (x₀ .table)) (sym (adds .grown))
 
     abbrev After : State → Type 0
-    After u = Before source x₀ (turned u64 shape from-field count-field (x .table) u work′ batch′) × (u .used - u .at < t .used - t .at)
+    After u = Before source x₀ (turned u64 shape storer from-field count-field (x .table) u work′ batch′) × (u .used - u .at < t .used - t .at)
 
     onward : After t′
     onward = subst After (sym (adds .state)) (next, omega (arith, left, live .stand .used))
       where
-        next : Before source x₀ (turned u64 shape from-field count-field (x .table) (passed t (adds .count)) work′ batch′)
+        next : Before source x₀ (turned u64 shape storer from-field count-field (x .table) (passed t (adds .count)) work′ batch′)
         next = record {
           numbers = before .numbers;
           kept = kept ∙ before .kept;
@@ -217,7 +217,7 @@ stops source x₀ x before ended = record {
         last : t .at ≡ s .used
         last = omega (arith, now .stand .at-most, ltb-false (t .at) (s .used) (sym (now .going) ∙ ended))
 
-abbrev law : Law u64 shape at-field from-field count-field
+abbrev law : Law u64 shape storer at-field from-field count-field
 law = record {
   Ask = λ t r w b. Turning t r w × (5 ≤ length b);
   Tell = λ t r w b t′ w′ b′. Recorded t r w t′ w′ b′;
@@ -237,9 +237,9 @@ unfolding code.routine tablesOf
 records-spec 𝓤 H 𝓜 𝓖 𝓡 =
     entered 𝓤 H (tripleOf 𝓤 H (𝓖 .A) records.signature (records.spec 𝓤 H (𝓖 .A) (𝓜 .mem) (𝓡 .run)))
     (tables 𝓤 H 𝓜 𝓡 code.env .C) (tables 𝓤 H 𝓜 𝓡 code.env .Λ) #records code.function (code.unfolded 𝓤 H 𝓜 𝓡)
-    (copying-meets u64 shape at-field from-field count-field law 𝓤 H (𝓖 .A) (𝓜 .mem) (𝓡 .run) (givenOf 𝓤 H 𝓜 𝓖) (tyInt w64) #record-turn #table·store
+    (copying-meets u64 shape storer at-field from-field count-field law 𝓤 H (𝓖 .A) (givenOf 𝓤 H 𝓜 𝓖) (tyInt w64) #record-turn #table·store
     (tablesOf 𝓤 H 𝓜 (tables 𝓤 H 𝓜 𝓡 code.env))
-    (cited 𝓤 H (Next u64 shape at-field from-field count-field law 𝓤 H (𝓖 .A)) 𝓜 𝓡 code.env #record-turn turn-def.routine
+    (cited 𝓤 H (Next u64 shape storer at-field from-field count-field law 𝓤 H (𝓖 .A)) 𝓜 𝓡 code.env #record-turn turn-def.routine
     code.calls-fix·turn·record-turn (turn-thm.met 𝓤 H 𝓜 𝓖 𝓡))
-    (cited 𝓤 H (Store 𝓤 H (𝓖 .A) (𝓜 .mem) (𝓡 .run)) 𝓜 𝓡 code.env #table·store store-def.routine
+    (cited 𝓤 H (Store storer 𝓤 H (𝓖 .A)) 𝓜 𝓡 code.env #table·store store-def.routine
     code.calls-table·store (store-thm.met 𝓤 H 𝓜 𝓖 𝓡)))

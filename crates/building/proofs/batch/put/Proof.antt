@@ -55,7 +55,7 @@ same-length : tie.Need-same-length
 same-length c = search needs
 
 returns : tie.Need-returns
-returns c = one-more (c .args .batch .now) (c .args .k) (c .args .new) (c .pre)
+returns c = one-more (c .args .batch .now) (c .args .k) (c .args .new) (omega arith)
 
 pub put-spec : {M : Type 1} → statement M
 put-spec =

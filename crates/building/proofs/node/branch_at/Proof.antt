@@ -1,61 +1,61 @@
--- `node::branch_at` reads the rule at hand and finds its rows.
+-- `node::branch_at` reads the rule at hand and finds its shelves.
 use Prim.Native.Nat.{_+_}
 use native.Mathlib.Omega.{arith}
 use lib.ListN.{getD}
 use Rattle.building.proofs.node.branch_at.Statement.{statement}
 use Rattle.building.proofs.node.branch_at.Tie as tie
 
--- the start, as it is known behind each row
-abbrev first : tie.After-row-at → tie.Start
+-- the start, as it is known behind each shelf
+abbrev first : tie.After-shelf-at → tie.Start
 first c = c .before .before .before .before
 
-abbrev second : tie.After-row-at2 → tie.Start
+abbrev second : tie.After-shelf-at2 → tie.Start
 second c = first (c .before .before .before)
 
-abbrev third : tie.After-row-at3 → tie.Start
+abbrev third : tie.After-shelf-at3 → tie.Start
 third c = second (c .before .before)
 
-sub-row-at : tie.Need-sub-row-at
-sub-row-at c = omega (arith, c .before .before .pre .below)
+sub-shelf-at : tie.Need-sub-shelf-at
+sub-shelf-at c = omega (arith, c .before .before .pre .below)
 
-add-row-at : tie.Need-add-row-at
-add-row-at c = omega (arith, c .before .before .pre .inside, c .before .before .good)
+add-shelf-at : tie.Need-add-shelf-at
+add-shelf-at c = omega (arith, c .before .before .pre .inside, c .before .before .good)
 
-shared-slice-read-row-at : tie.Need-shared-slice-read-row-at
-shared-slice-read-row-at c = omega (arith, c .before .before .before .pre .inside)
+shared-slice-read-shelf-at : tie.Need-shared-slice-read-shelf-at
+shared-slice-read-shelf-at c = omega (arith, c .before .before .before .pre .inside)
 
-cast-row-at : tie.Need-cast-row-at
-cast-row-at c = omega (arith, c .before .before .before .pre .left)
+cast-shelf-at : tie.Need-cast-shelf-at
+cast-shelf-at c = omega (arith, c .before .before .before .pre .left)
 
-row-at-requires : tie.Need-row-at-requires
-row-at-requires c κs = omega (arith, c .before .before .before .pre)
+shelf-at-requires : tie.Need-shelf-at-requires
+shelf-at-requires c κs = omega (arith, c .before .before .before .pre)
 
-sub-row-at-2 : tie.Need-sub-row-at-2
-sub-row-at-2 c = omega (arith, (first (c .before)) .pre .below)
+sub-shelf-at-2 : tie.Need-sub-shelf-at-2
+sub-shelf-at-2 c = omega (arith, (first (c .before)) .pre .below)
 
-add-row-at-2 : tie.Need-add-row-at-2
-add-row-at-2 c = omega (arith, (first (c .before)) .pre .inside, (first (c .before)) .good)
+add-shelf-at-2 : tie.Need-add-shelf-at-2
+add-shelf-at-2 c = omega (arith, (first (c .before)) .pre .inside, (first (c .before)) .good)
 
-shared-slice-read-row-at-2 : tie.Need-shared-slice-read-row-at-2
-shared-slice-read-row-at-2 c = omega (arith, (first (c .before .before)) .pre .inside)
+shared-slice-read-shelf-at-2 : tie.Need-shared-slice-read-shelf-at-2
+shared-slice-read-shelf-at-2 c = omega (arith, (first (c .before .before)) .pre .inside)
 
-cast-row-at-2 : tie.Need-cast-row-at-2
-cast-row-at-2 c = omega (arith, (first (c .before .before)) .pre .right)
+cast-shelf-at-2 : tie.Need-cast-shelf-at-2
+cast-shelf-at-2 c = omega (arith, (first (c .before .before)) .pre .right)
 
-row-at-requires-2 : tie.Need-row-at-requires-2
-row-at-requires-2 c κs = omega (arith, (first (c .before .before)) .pre)
+shelf-at-requires-2 : tie.Need-shelf-at-requires-2
+shelf-at-requires-2 c κs = omega (arith, (first (c .before .before)) .pre)
 
-add-row-at-3 : tie.Need-add-row-at-3
-add-row-at-3 c = omega (arith, (second c) .pre .inside, (second c) .good)
+add-shelf-at-3 : tie.Need-add-shelf-at-3
+add-shelf-at-3 c = omega (arith, (second c) .pre .inside, (second c) .good)
 
-shared-slice-read-row-at-3 : tie.Need-shared-slice-read-row-at-3
-shared-slice-read-row-at-3 c = omega (arith, (second (c .before)) .pre .inside)
+shared-slice-read-shelf-at-3 : tie.Need-shared-slice-read-shelf-at-3
+shared-slice-read-shelf-at-3 c = omega (arith, (second (c .before)) .pre .inside)
 
-cast-row-at-3 : tie.Need-cast-row-at-3
-cast-row-at-3 c = omega (arith, (second (c .before)) .pre .state)
+cast-shelf-at-3 : tie.Need-cast-shelf-at-3
+cast-shelf-at-3 c = omega (arith, (second (c .before)) .pre .state)
 
-row-at-requires-3 : tie.Need-row-at-requires-3
-row-at-requires-3 c κs = omega (arith, (second (c .before)) .pre)
+shelf-at-requires-3 : tie.Need-shelf-at-requires-3
+shelf-at-requires-3 c κs = omega (arith, (second (c .before)) .pre)
 
 flags-requires : tie.Need-flags-requires
 flags-requires c κs = omega (arith, (third c) .pre)
@@ -80,29 +80,29 @@ returns c =
       node = a .t .node;
       size = c .before .flags .ensures i;
       own = getD (a .input .now) (a .rule + 2) 0;
-      left = left .row-at .ensures i;
-      right = right .row-at2 .ensures i;
-      to = to .row-at3 .ensures i;
+      left = left .shelf-at .ensures i;
+      right = right .shelf-at2 .ensures i;
+      to = to .shelf-at3 .ensures i;
     }
 
 pub branch-at-spec : {M : Type 1} → statement M
 branch-at-spec =
     tie.close
     (tie.spec
-    sub-row-at
-    add-row-at
-    shared-slice-read-row-at
-    cast-row-at
-    row-at-requires
-    sub-row-at-2
-    add-row-at-2
-    shared-slice-read-row-at-2
-    cast-row-at-2
-    row-at-requires-2
-    add-row-at-3
-    shared-slice-read-row-at-3
-    cast-row-at-3
-    row-at-requires-3
+    sub-shelf-at
+    add-shelf-at
+    shared-slice-read-shelf-at
+    cast-shelf-at
+    shelf-at-requires
+    sub-shelf-at-2
+    add-shelf-at-2
+    shared-slice-read-shelf-at-2
+    cast-shelf-at-2
+    shelf-at-requires-2
+    add-shelf-at-3
+    shared-slice-read-shelf-at-3
+    cast-shelf-at-3
+    shelf-at-requires-3
     flags-requires
     add-t8
     shared-slice-read-t10

@@ -7,10 +7,11 @@ use borrow.Author.Tests.{leb-false, leb-true}
 use lib.ListN.{drop, length}
 use Rattle.paper.specs.Stream.{recordsOf}
 use Rattle.building.specs.Batch.{Record, recordsIn}
+use Rattle.building.specs.Bounds.{ruleRecords}
 use Rattle.building.specs.Standing.{Filling}
 use Rattle.building.specs.States.{more}
 use Rattle.building.proofs.LeafTurn.{LeafReady, leaf-onward, leaf-ready}
-use Rattle.building.proofs.OwnRow.{Onward}
+use Rattle.building.proofs.OwnShelf.{Onward}
 use Rattle.building.proofs.Present.{inside-here}
 use Rattle.building.proofs.RuleLoop.{Ran, ran-ends, ran-onward, ran-starts, searched-from}
 use Rattle.building.proofs.node.leaf_rules.Statement.{statement}
@@ -58,7 +59,7 @@ onward c base f =
     let done = c .before .before .before .before .before .before in
     leaf-onward (a .input .now) (more (a .t) (l .count) (l .rule)) (l .work) (l .batch) base (l .inv .2 base f .standing) (f .start)
     (t .before .loop-test .taken) (b .pre .1 .0 .1) _ _ _ _ (done .leaf-rule .kept .1 .0)
-    (done .before .before .before .before .row-at .ensures) (done .leaf-rule .ensures) (searched-from (omega (arith, c .before .body-length .ensures)) (c .next-rule .ensures))
+    (done .before .before .before .before .shelf-at .ensures) (done .leaf-rule .ensures) (searched-from (omega (arith, c .before .body-length .ensures)) (c .next-rule .ensures))
 
 add-label : tie.Need-add-label Inv-loop μ-loop
 add-label c =
@@ -87,34 +88,34 @@ shared-slice-read-flag c = omega (arith, ready (c .before) .rule)
 cast-flag : tie.Need-cast-flag Inv-loop μ-loop
 cast-flag c = omega (arith, ready (c .before) .flag)
 
-add-row-at : tie.Need-add-row-at Inv-loop μ-loop
-add-row-at c = omega (arith, ready (c .before) .rule, (start (c .before)) .good)
+add-shelf-at : tie.Need-add-shelf-at Inv-loop μ-loop
+add-shelf-at c = omega (arith, ready (c .before) .rule, (start (c .before)) .good)
 
-shared-slice-read-row-at : tie.Need-shared-slice-read-row-at Inv-loop μ-loop
-shared-slice-read-row-at c = omega (arith, ready (c .before .before) .rule)
+shared-slice-read-shelf-at : tie.Need-shared-slice-read-shelf-at Inv-loop μ-loop
+shared-slice-read-shelf-at c = omega (arith, ready (c .before .before) .rule)
 
-cast-row-at : tie.Need-cast-row-at Inv-loop μ-loop
-cast-row-at c = omega (arith, ready (c .before .before) .state)
+cast-shelf-at : tie.Need-cast-shelf-at Inv-loop μ-loop
+cast-shelf-at c = omega (arith, ready (c .before .before) .state)
 
-row-at-requires : tie.Need-row-at-requires Inv-loop μ-loop
-row-at-requires c κs = omega (arith, ready (c .before .before))
+shelf-at-requires : tie.Need-shelf-at-requires Inv-loop μ-loop
+shelf-at-requires c κs = omega (arith, ready (c .before .before))
 
 cast-leaf-rule : tie.Need-cast-leaf-rule Inv-loop μ-loop
 cast-leaf-rule c = omega (arith, ready (c .before .before .before .before .before .before) .node)
 
 leaf-rule-requires : tie.Need-leaf-rule-requires Inv-loop μ-loop
 leaf-rule-requires c κs =
-    let row = c .before .before .before in
-    let t = row .before .before .before in
+    let shelf = c .before .before .before in
+    let t = shelf .before .before .before in
     let b = start t in
     let l = t .before .before .loop in
     omega (
       arith,
       ready t,
-      row .row-at .ensures,
+      shelf .shelf-at .ensures,
       b .pre .1 .1 .0,
       l .inv .0,
-      leb-true (l .count) 324 (t .if1 .taken),
+      leb-true (l .count) ruleRecords (t .if1 .taken),
       b .pre .0 .1 .few,
       b .pre .0 .1 .standing .constants .limit,
     )
@@ -149,7 +150,7 @@ loop-again c =
       done .leaf-rule .kept .1 .0 ∙ l .inv .1,
       λ base f.
           ran-onward (a .input .now) (a .t) (a .work .now) (a .batch .now) base f (b .pre .1 .1 .1) (l .inv .2 base f)
-          (leb-true (l .count) 324 (t .if1 .taken)) (onward c base f),
+          (leb-true (l .count) ruleRecords (t .if1 .taken)) (onward c base f),
     )
 
 count-records-requires : tie.Need-count-records-requires Inv-loop μ-loop
@@ -167,7 +168,7 @@ returns c base f =
     let b = c .before .before .before .before .before .before .before in
     let a = b .args in
     ran-ends (a .input .now) (a .t) (a .work .now) (a .batch .now) base f (b .pre .1 .1 .1) (l .inv .2 base f) (b .pre .1 .0 .0)
-    (⊎-elim (λ w. inl (leb-false (l .count) 324 (w .1 .left))) (λ w. inr (w .left)) (c .before .loop-test .came)) (c .count-records .ensures)
+    (⊎-elim (λ w. inl (leb-false (l .count) ruleRecords (w .1 .left))) (λ w. inr (w .left)) (c .before .loop-test .came)) (c .count-records .ensures)
 
 pub leaf-rules-spec : {M : Type 1} → statement M
 leaf-rules-spec =
@@ -181,10 +182,10 @@ leaf-rules-spec =
     add-flag
     shared-slice-read-flag
     cast-flag
-    add-row-at
-    shared-slice-read-row-at
-    cast-row-at
-    row-at-requires
+    add-shelf-at
+    shared-slice-read-shelf-at
+    cast-shelf-at
+    shelf-at-requires
     cast-leaf-rule
     leaf-rule-requires
     add-next-rule

@@ -5,13 +5,14 @@ use native.Mathlib.Nat.{mul-comm}
 use native.Mathlib.Omega.{arith}
 use borrow.Author.Needs.{needs}
 use lib.Pow.{shl-exact}
+use Rattle.building.specs.Bounds.{slotSets}
 use Rattle.building.proofs.Slots.{set-put, slot-fits}
 use Rattle.building.proofs.slot.put_set.Statement.{statement}
 use Rattle.building.proofs.slot.put_set.Tie as tie
 
 -- the mark of the flag fits
-mark : (c : tie.Start) → (65536 * 2 ^ c .args .flag) % 2 ^ 64 ≡ 2 ^ c .args .flag * 2 ^ 16
-mark c = shl-exact {a = 65536} 17 (c .args .flag) 64 (omega arith) (omega arith) ∙ mul-comm 65536 (2 ^ c .args .flag)
+mark : (c : tie.Start) → (slotSets * 2 ^ c .args .flag) % 2 ^ 64 ≡ 2 ^ c .args .flag * 2 ^ 16
+mark c = shl-exact {a = slotSets} 17 (c .args .flag) 64 (omega arith) (omega arith) ∙ mul-comm slotSets (2 ^ c .args .flag)
 
 add-at : tie.Need-add-at
 add-at c = omega arith
@@ -40,12 +41,12 @@ slice-read-work-2 c = search needs
 mul-work-4 : tie.Need-mul-work-4
 mul-work-4 c =
     let a = c .before .before .args in
-    omega (arith, slot-fits _ 0 (c .slice-known2 .given (a .row + a .flag) .fits) (omega arith))
+    omega (arith, slot-fits _ 0 (c .slice-known2 .given (a .shelf + a .flag) .fits) (omega arith))
 
 add-work : tie.Need-add-work
 add-work c =
     let a = c .before .before .args in
-    omega (arith, slot-fits _ (a .set) (c .slice-known2 .given (a .row + a .flag) .fits) (c .before .before .pre .1))
+    omega (arith, slot-fits _ (a .set) (c .slice-known2 .given (a .shelf + a .flag) .fits) (c .before .before .pre .1))
 
 mul-work-5 : tie.Need-mul-work-5
 mul-work-5 c = search needs
@@ -60,7 +61,7 @@ returns : tie.Need-returns
 returns c =
     let start = c .before .before in
     let a = start .args in
-    set-put (a .work .now) (a .row) (a .flag) _ (a .set) (mark start) (start .pre .0 .0) (start .pre .1)
+    set-put (a .work .now) (a .shelf) (a .flag) _ (a .set) (mark start) (start .pre .0 .0) (start .pre .1)
 
 pub put-set-spec : {M : Type 1} → statement M
 put-set-spec =

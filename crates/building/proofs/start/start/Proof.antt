@@ -1,0 +1,79 @@
+-- `start::start` refuses work that is too short, or comes to the first node.
+use mathlib.Core.Path.{refl}
+use native.Mathlib.Omega.{arith}
+use borrow.Author.Needs.{needs}
+use Rattle.building.proofs.Beginning.{ReadFacts, asked-fits, asked-is, comes-first, first-started, read-facts, short-work, small}
+use Rattle.building.proofs.start.start.Statement.{statement}
+use Rattle.building.proofs.start.start.Tie as tie
+
+-- what was read
+facts : (c : tie.Start) → ReadFacts (c .args .input .now) (c .args .tree) (c .args .query)
+facts c = read-facts (c .args .input .now) (c .args .tree) (c .args .query) (c .pre .0) (c .pre .1)
+
+add-asked : tie.Need-add-asked
+add-asked c =
+    let start = c .before .before .before in
+    omega (arith, small (start .args .input .now) (start .args .tree) (start .args .query) (facts start))
+
+frame-width-requires : tie.Need-frame-width-requires
+frame-width-requires c κs =
+    let start = c .before .before .before in
+    let numbers = small (start .args .input .now) (start .args .tree) (start .args .query) (facts start) in
+    (numbers .1, numbers .2)
+
+mul-asked : tie.Need-mul-asked
+mul-asked c =
+    let start = c .before .before .before .before in
+    omega (arith, asked-fits (start .args .input .now) (start .args .tree) (start .args .query) (facts start) (c .frame-width .ensures))
+
+returns : tie.Need-returns
+returns c =
+    let start = c .before .before .before .before .before in
+    let a = start .args in (
+      short-work (a .input .now) (a .tree) (a .query) (facts start) (a .work .now) (a .entries) (c .before .frame-width .ensures) (c .if1 .taken),
+      omega arith,
+      refl,
+    )
+
+record-limit-requires : tie.Need-record-limit-requires
+record-limit-requires c κs = search needs
+
+start-node-requires : tie.Need-start-node-requires
+start-node-requires c κs =
+    let wide = c .before .before .before in
+    let start = wide .before .before .before .before in
+    let a = start .args in (
+      _,
+      comes-first (a .input .now) (a .tree) (a .query) (facts start) _ (a .work .now) (a .entries) (c .before .record-limit .ensures)
+          refl refl refl refl refl refl refl refl
+          (asked-is (a .input .now) (a .tree) (a .query) (facts start) (wide .frame-width .ensures)) (c .before .before .if1 .left),
+    )
+
+same-length : tie.Need-same-length
+same-length c = search needs
+
+returns-2 : tie.Need-returns-2
+returns-2 c =
+    let come = c .before .before in
+    let limit = come .before .before in
+    let wide = limit .before .before in
+    let start = wide .before .before .before .before in
+    let a = start .args in
+    first-started (a .input .now) (a .tree) (a .query) (facts start) _ (a .work .now) (a .entries) (limit .record-limit .ensures)
+    (come .start-node .ensures _
+    (comes-first (a .input .now) (a .tree) (a .query) (facts start) _ (a .work .now) (a .entries) (limit .record-limit .ensures)
+    refl refl refl refl refl refl refl refl
+    (asked-is (a .input .now) (a .tree) (a .query) (facts start) (wide .frame-width .ensures)) (limit .before .if1 .left)))
+
+pub start-spec : {M : Type 1} → statement M
+start-spec =
+    tie.close
+    (tie.spec
+    add-asked
+    frame-width-requires
+    mul-asked
+    returns
+    record-limit-requires
+    start-node-requires
+    same-length
+    returns-2)

@@ -1,0 +1,23 @@
+-- The start of a build: what `begin` answers, and what it leaves in the work.
+use mathlib.Core.List.{List, []}
+use mathlib.Core.Path.{_≡_}
+use Prim.Native.Nat.{ℕ, _≤_, min}
+use lib.ListN.{length, drop}
+use Rattle.paper.specs.Refusals.{build, refused}
+use Rattle.paper.specs.Answers.{numberOf}
+use Rattle.building.specs.Bounds.{mostRecords}
+use Rattle.building.specs.Standing.{Standing, State}
+pub use Rattle.building.specs.declared.start.Begun.{Begun}
+use Rattle.building.specs.declared.start.Begun.the-variants as BegunIs
+
+-- the building stands at its first node, with no record made; the work behind the part that is asked for is as it was
+pub record Started (input work : List ℕ) (tableLength : ℕ) (t : State) (work′ : List ℕ) : Type 0 where
+  pub standing : Standing input t work′ []
+  pub limit : t .limit ≡ min tableLength mostRecords
+  pub rest : drop (t .asked) work′ ≡ drop (t .asked) work
+
+-- or it is refused with 1 to 5, and the work is as it was
+abbrev pub Begins : List ℕ → List ℕ → ℕ → Begun → List ℕ → Type 0
+Begins input work tableLength (BegunIs.Going t) work′ = Started input work tableLength t work′
+Begins input work tableLength (BegunIs.Refused why) work′ =
+    (build input (length work) tableLength ≡ refused (numberOf why)) × (numberOf why ≤ 5) × (work′ ≡ work)

@@ -1,0 +1,91 @@
+// The start of a build: the tree and the query are read, the work is measured, and the building stands at
+// its first node. The paper's order of the refusals is the order here: 1 and 2, 3 and 4, then 5.
+ghost use mathlib.Core.Path.{_≡_};
+ghost use Prim.Native.Nat.{min};
+ghost use Rattle.paper.specs.Refusals.{answer};
+ghost use Rattle.stream.specs.Reading.{treeReply, queryReply};
+ghost use Rattle.building.specs.Bounds.{mostRecords};
+ghost use Rattle.building.specs.Start.{Begins};
+use crate::frame::frame_width;
+use crate::node::start_node;
+use crate::state::State;
+use paper::Refusal;
+use paper::limits::MOST_RECORDS;
+use stream::QueryFacts;
+use stream::QueryRead;
+use stream::TreeFacts;
+use stream::TreeRead;
+use stream::read_query;
+use stream::read_tree;
+use table::EMPTY;
+
+// The building stands at its first node, or is refused with 1 to 5.
+pub(crate) enum Begun {
+    Going(State),
+    Refused(Refusal),
+}
+
+// How many records fit in a table of so many entries.
+fn record_limit(entries: usize) -> usize
+    ensures { λ r. ⌜ r ≡ min entries mostRecords ⌝ }
+{
+    if entries < MOST_RECORDS {
+        entries
+    } else {
+        MOST_RECORDS
+    }
+}
+
+// The first node of a tree and a query that are read, if the work is as long as they ask. The table has so
+// many entries. The work is not touched before that is known, since refusal 5 leaves it as it was.
+fn start(
+    input: &[u8],
+    work: &mut [u64],
+    entries: usize,
+    tree: TreeFacts,
+    query: QueryFacts,
+) -> Begun
+    requires { ⌜ answer tree ≡ treeReply (now input) ⌝ }
+    requires { ⌜ answer query ≡ queryReply (now input) (tree .end) ⌝ }
+    ensures { λ r. ⌜ Begins (now (input .entry)) (now (work .entry)) entries r (now (work .exit)) ⌝ }
+{
+    // A frame for each of the most subtrees ever unjoined, and one for the present node. At most 4,096
+    // frames of at most 256 numbers: a usize holds far more.
+    let asked = (1 + tree.most) * frame_width(query.arity, query.states);
+    if work.len() < asked {
+        return Begun::Refused(Refusal::ShortWork);
+    }
+    // Where the first node stands, and its first rule, `start_node` says.
+    let t = State {
+        from: 0,
+        count: 0,
+        at: 0,
+        node: 0,
+        top: 0,
+        rule: 0,
+        set: EMPTY,
+        nodes: tree.nodes,
+        rules: query.rules,
+        arity: query.arity,
+        states: query.states,
+        limit: record_limit(entries),
+        asked: asked,
+        going: true,
+        over: false,
+    };
+    Begun::Going(start_node(t, 0, 0, 0, input, &mut *work))
+}
+
+// The tree, then the query behind it: the first that is refused ends the build. What is kept of them is a
+// few counts; the rules are read again, where they stand, at each node.
+pub(crate) fn begin(input: &[u8], work: &mut [u64], entries: usize) -> Begun
+    ensures { λ r. ⌜ Begins (now (input .entry)) (now (work .entry)) entries r (now (work .exit)) ⌝ }
+{
+    match read_tree(input) {
+        TreeRead::Refused(why) => Begun::Refused(why),
+        TreeRead::Tree(tree) => match read_query(input, tree.end) {
+            QueryRead::Refused(why) => Begun::Refused(why),
+            QueryRead::Query(query) => start(input, &mut *work, entries, tree, query),
+        },
+    }
+}
