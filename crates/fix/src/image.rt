@@ -9,20 +9,14 @@ ghost use Rattle.paper.specs.Building.{singleRecord, productRecord, unionRecord
 ghost use Rattle.fix.specs.Sets.{setIn, standing, newest, imageWith, Makes};
 use paper::Flag;
 use paper::Record;
+use paper::kinds::PRODUCT;
+use paper::kinds::SINGLE;
+use paper::kinds::UNION;
 use places::has_place;
 use places::without_place;
-use sound::kind::PRODUCT;
-use sound::kind::SINGLE;
-use sound::kind::UNION;
-
-// The number of the empty set.
-pub(crate) const EMPTY: u64 = 0;
-
-// The number of the set unit.
-pub(crate) const UNIT: u64 = 1;
-
-// The number of the set that is record 0 of the new table, behind which come the others.
-pub(crate) const FIRST_RECORD: u64 = 2;
+use table::EMPTY;
+use table::FIRST_RECORD;
+use table::UNIT;
 
 // The set that a record becomes, and the record that is new if one is: `count` is 0 or 1. Where it is
 // 0, `new` is blank and goes nowhere.

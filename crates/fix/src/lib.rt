@@ -7,12 +7,12 @@ use crate::answer::finish;
 use crate::start::again;
 use crate::start::begin;
 use crate::state::State;
-use crate::turn::RECORD_NUMBERS;
 use crate::turn::image_turn;
 use crate::turn::record_turn;
 use paper::Fixed;
 use paper::Head;
 use paper::Record;
+use table::RECORD_NUMBERS;
 
 mod answer;
 mod image;

@@ -6,19 +6,16 @@ ghost use lib.ListN.{length};
 ghost use Rattle.table.specs.Batch.{recordAt};
 ghost use Rattle.fix.specs.Sets.{operandIn};
 ghost use Rattle.fix.specs.Turns.{Turning, Imaged, Recorded};
-use crate::image::EMPTY;
-use crate::image::FIRST_RECORD;
-use crate::image::UNIT;
 use crate::image::image_of;
 use crate::state::State;
 use crate::state::pass;
 use crate::state::stop;
 use paper::Record;
-use sound::kind::SINGLE;
-use sound::kind::UNION;
-
-// A record in the batch is five numbers: kind, node, left, right, flag.
-pub(crate) const RECORD_NUMBERS: usize = 5;
+use paper::kinds::SINGLE;
+use paper::kinds::UNION;
+use table::EMPTY;
+use table::FIRST_RECORD;
+use table::UNIT;
 
 // What an operand of a record of this kind has become; empty for a single, which has none. Its number
 // is not tested: in a sound set it is lower than the record's, and so the work has it.

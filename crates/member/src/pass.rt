@@ -8,9 +8,9 @@ ghost use Rattle.member.specs.Rows.{stands};
 ghost use Rattle.member.specs.Pass.{lists, answerOf, Reads, Turns};
 use paper::Member;
 use paper::Record;
-use sound::kind::SINGLE;
-use sound::kind::UNION;
-use sound::limits::PLACES;
+use paper::kinds::SINGLE;
+use paper::kinds::UNION;
+use paper::limits::MOST_PLACES;
 
 // `at` is the record that comes next, `root` the last one. `row` is the row asked for, blank behind its
 // end: by value, so that a turn holds no second slice. `answer` is that of the record last passed: at
@@ -18,20 +18,20 @@ use sound::limits::PLACES;
 pub(crate) struct State {
     pub(crate) at: usize,
     pub(crate) root: usize,
-    pub(crate) row: [u16; PLACES],
+    pub(crate) row: [u16; MOST_PLACES],
     pub(crate) answer: Member,
     pub(crate) going: bool,
 }
 
 // Whether the node stands at each place of the flag. Its lowest bit is the place at hand; the flag is
 // halved from place to place.
-fn stands(row: [u16; PLACES], node: u16, flag: u16) -> bool
+fn stands(row: [u16; MOST_PLACES], node: u16, flag: u16) -> bool
     ensures { λ r. ⌜ r ≡ stands node flag row ⌝ }
 {
     let mut rest = flag;
     let mut i = 0;
     // Ends behind the last place, or where another node stands.
-    while i < PLACES {
+    while i < MOST_PLACES {
         if rest % 2 == 1 {
             if node != row[i] {
                 return false;
@@ -46,7 +46,7 @@ fn stands(row: [u16; PLACES], node: u16, flag: u16) -> bool
 // Whether the record lists the row restricted to its flag, by its operands' cells. A union's operands
 // have its flag, so it is the same row that they are asked for. A product's share no bit and together
 // make its flag, so each is asked for its part of the row.
-fn lists(row: [u16; PLACES], r: Record, work: &[u64]) -> bool
+fn lists(row: [u16; MOST_PLACES], r: Record, work: &[u64]) -> bool
     requires { ⌜ (r .left < length (now work)) × (r .right < length (now work)) ⌝ }
     ensures { λ c. ⌜ c ≡ lists row (now (work .entry)) r ⌝ }
 {

@@ -13,8 +13,8 @@ use paper::Member;
 use paper::Place;
 use paper::Refusal;
 use paper::Set;
+use paper::limits::MOST_PLACES;
 use sound::Weighed;
-use sound::limits::PLACES;
 
 // Whether an entry fits its place: a node of the tree at an open one, blank at a fixed one.
 fn entry_fits(open_place: bool, nodes: u16, entry: u16) -> bool
@@ -46,11 +46,11 @@ fn entries_fit(head: Head, row: &[u16]) -> bool
 }
 
 // The row, blank behind its end: no record of a sound set has a place there.
-fn padded(row: &[u16]) -> [u16; PLACES]
+fn padded(row: &[u16]) -> [u16; MOST_PLACES]
     requires { ⌜ length (now row) ≤ 4 ⌝ }
     ensures { λ r. ⌜ r ≡ padded (now (row .entry)) ⌝ }
 {
-    let mut four = [Place::BLANK; PLACES];
+    let mut four = [Place::BLANK; MOST_PLACES];
     let mut i = 0;
     // Ends behind the last entry. There are at most four, since the row is as long as the arity.
     while i < row.len() {
@@ -67,7 +67,7 @@ fn stopped(answer: Member) -> State
     State {
         at: 0,
         root: 0,
-        row: [Place::BLANK; PLACES],
+        row: [Place::BLANK; MOST_PLACES],
         answer: answer,
         going: false,
     }

@@ -5,8 +5,8 @@ ghost use Rattle.project.specs.Passing.{InWork, Passes, cellsAfter, kept
 use crate::state::MARKED;
 use crate::state::State;
 use paper::Record;
+use paper::kinds::SINGLE;
 use places::has_place;
-use sound::kind::SINGLE;
 
 // What a single under the root keeps in its cell: 1 more than its node, since 0 says that there is
 // none.

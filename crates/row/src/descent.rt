@@ -6,10 +6,10 @@ ghost use Rattle.row.specs.Descent.{Readable, Steps, rowsAt, lower, begi
 use crate::flag::open_from;
 use crate::state::State;
 use paper::Record;
+use paper::kinds::SINGLE;
+use paper::kinds::UNION;
+use paper::limits::MOST_PLACES;
 use places::has_place;
-use sound::kind::SINGLE;
-use sound::kind::UNION;
-use sound::limits::PLACES;
 use sound::weight::flag_in;
 use sound::weight::rows_in;
 
@@ -50,7 +50,7 @@ fn place_node(t: State, node: u16) -> State
     s.place = open_from(t.asked.open_places, place + 1);
     s.at = t.start;
     s.number = t.listed;
-    s.going = s.place < PLACES;
+    s.going = s.place < MOST_PLACES;
     s
 }
 

@@ -6,11 +6,11 @@ ghost use Rattle.paper.specs.Refusals.{over};
 ghost use Rattle.row.specs.Output.{Writable, Finishes};
 use crate::state::State;
 use paper::Written;
+use paper::limits::MOST_PLACES;
 use sound::clear;
-use sound::limits::PLACES;
 
 // The row's first entries, one a place. The output may be longer: what is behind them stays.
-fn write(row: [u16; PLACES], arity: usize, out: &mut [u16])
+fn write(row: [u16; MOST_PLACES], arity: usize, out: &mut [u16])
     requires { ⌜ (arity ≤ 4) × (arity ≤ length (now out)) ⌝ }
     ensures { λ _. ⌜ now (out .exit) ≡ over (take arity row) (now (out .entry)) ⌝ }
 {

@@ -11,8 +11,8 @@ use paper::Place;
 use paper::Refusal;
 use paper::Set;
 use paper::Written;
+use paper::limits::MOST_PLACES;
 use sound::Weighed;
-use sound::limits::PLACES;
 use sound::set_rows;
 
 // The record where the first descent begins. Empty and unit have none, and no descent: empty has no
@@ -27,8 +27,8 @@ fn root_in(set: Set) -> usize
     }
 }
 
-// The first descent, for this place, begins at the root. The index `PLACES` is no place, and no
-// descent. Every entry is blank at first, and stays so at a place that is not open.
+// The first descent, for this place, begins at the root. The index `MOST_PLACES` is that of none, and
+// there is no descent. Every entry is blank at first, and stays so at a place that is not open.
 fn at_root(asked: Asked, place: usize) -> State
     ensures { λ s. ⌜ s ≡ atRoot asked place ⌝ }
 {
@@ -38,9 +38,9 @@ fn at_root(asked: Asked, place: usize) -> State
         start: asked.root,
         listed: asked.number,
         place: place,
-        row: [Place::BLANK; PLACES],
+        row: [Place::BLANK; MOST_PLACES],
         asked: asked,
-        going: place < PLACES,
+        going: place < MOST_PLACES,
     }
 }
 
@@ -57,7 +57,7 @@ fn refused(why: Refusal, used: usize) -> State
         open_places: Flag::NONE,
         answer: Written::Refused(why),
     };
-    at_root(asked, PLACES)
+    at_root(asked, MOST_PLACES)
 }
 
 // Of a sound set: the first descent, for the first open place; 9 before 10, as the paper orders them.

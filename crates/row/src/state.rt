@@ -1,6 +1,6 @@
 // Where the search for a row stands between two turns: what is asked for, and how far it is.
 use paper::Written;
-use sound::limits::PLACES;
+use paper::limits::MOST_PLACES;
 
 // What is asked for, which stays: row `number` of record `root`, that fills `open_places`, in a set of
 // so many places and used records. `answer` is a refusal only where no turn is taken; the arity is
@@ -23,7 +23,7 @@ pub(crate) struct State {
     pub(crate) start: usize,
     pub(crate) listed: u64,
     pub(crate) place: usize,
-    pub(crate) row: [u16; PLACES],
+    pub(crate) row: [u16; MOST_PLACES],
     pub(crate) asked: Asked,
     pub(crate) going: bool,
 }

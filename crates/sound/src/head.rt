@@ -6,15 +6,15 @@ ghost use lib.ListN.{length};
 ghost use Rattle.sound.specs.Head.{headFits, begun, setFits, Judges};
 use crate::Weighed;
 use crate::clear;
-use crate::limits::MOST_NODES;
-use crate::limits::MOST_PLACES;
-use crate::limits::MOST_RECORDS;
 use crate::state::State;
 use crate::weight::flag_in;
 use paper::Flag;
 use paper::Head;
 use paper::Refusal;
 use paper::Set;
+use paper::limits::MOST_NODES;
+use paper::limits::MOST_PLACES;
+use paper::limits::MOST_RECORDS;
 
 // Whether the head's numbers are those of a sound set, over a table of so many entries.
 fn head_fits(head: Head, entries: usize) -> bool
@@ -23,20 +23,20 @@ fn head_fits(head: Head, entries: usize) -> bool
     if head.nodes < 1 {
         return false;
     }
-    if head.nodes > MOST_NODES {
+    if head.nodes as usize > MOST_NODES {
         return false;
     }
     if head.arity < 1 {
         return false;
     }
-    if head.arity > MOST_PLACES {
+    if head.arity as usize > MOST_PLACES {
         return false;
     }
     // Only now is the arity small enough to shift by.
     if head.open_places >= 1u16 << head.arity {
         return false;
     }
-    head.used <= MOST_RECORDS && head.used as usize <= entries
+    head.used as usize <= MOST_RECORDS && head.used as usize <= entries
 }
 
 // The pass stands at the first record, if the head fits and the work is long enough. Else no record

@@ -1,8 +1,7 @@
 // The test that a set is sound, and how many rows each of its records lists: one pass over the used
 // records, with which every question begins. Then the first question, how many rows there are.
 // First these two and the loop over the table, then what the questions need besides: the rows of a
-// set, and the cleared work. The public modules are for the questions too: the kinds of records, the
-// limits, and how a weight is read.
+// set, and the cleared work. How a weight is read, in a module of its own, is for them too.
 ghost use mathlib.Core.Path.{_≡_};
 ghost use Prim.Native.Nat.{min};
 ghost use lib.ListN.{length, replicate};
@@ -24,8 +23,6 @@ use paper::Set;
 
 mod counted;
 mod head;
-pub mod kind;
-pub mod limits;
 mod record;
 mod state;
 pub mod weight;

@@ -9,16 +9,16 @@ ghost use lib.ListN.{length};
 ghost use Rattle.paper.specs.Sound.{apart, mostRows};
 ghost use Rattle.sound.specs.OneRecord.{ifFew, singleRows, unionRows, productRows, rowsBy, weightFor, recordFits, Weighable, Steps};
 ghost use Rattle.sound.specs.Weights.{rowsIn};
-use crate::kind::PRODUCT;
-use crate::kind::SINGLE;
-use crate::kind::UNION;
-use crate::limits::MOST_ROWS;
 use crate::state::State;
 use crate::weight::flag_in;
 use crate::weight::rows_in;
 use crate::weight::weight_of;
 use paper::Flag;
 use paper::Record;
+use paper::kinds::PRODUCT;
+use paper::kinds::SINGLE;
+use paper::kinds::UNION;
+use paper::limits::MOST_ROWS;
 use places::filled;
 
 // A factor of at most so many rows is small, 2 to the power of 24: its square is the most rows, so two
