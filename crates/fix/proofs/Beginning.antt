@@ -10,7 +10,7 @@ use Rattle.paper.specs.Refusals.{isOpen}
 use Rattle.sound.specs.declared.Weighed.{Weighed}
 use Rattle.sound.specs.declared.Weighed.the-variants as WeighedIs
 use Rattle.fix.specs.States.{State, refusedBy, started}
-use Rattle.fix.specs.Whole.{begun}
+use Rattle.fix.specs.Start.{begun}
 
 module _ (w : Weighed) (h : Head) (place node entries : ℕ) (s : State) where
   pub weigh-refused : (why : Refusal) → w ≡ WeighedIs.Refused why → s ≡ refusedBy 0 why → s ≡ begun w h place node entries

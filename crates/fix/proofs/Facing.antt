@@ -34,7 +34,8 @@ use Rattle.fix.specs.Face.{Fixes}
 use Rattle.fix.specs.Passes.{Fitting, ImagesDone, ImagesFound, MayImage, MayRecord, Numbered, RecordsDone, RecordsMade, Twice}
 use Rattle.fix.specs.Sets.{Record, Set, at, empty, setAfter, setIn, unit}
 use Rattle.fix.specs.States.{State, refusedBy, restarted, started}
-use Rattle.fix.specs.Whole.{Finishes, MayFinish, begun, headAfter}
+use Rattle.fix.specs.Answer.{Finishes, MayFinish, headAfter}
+use Rattle.fix.specs.Start.{begun}
 use Rattle.fix.proofs.ImageSteps.{at-hand, few-records}
 
 restarted-refused : (t : State) → t .refused ≡ true → restarted t ≡ t

@@ -8,7 +8,7 @@ use Rattle.paper.specs.declared.Head.{Head}
 use Rattle.paper.specs.Questions.{without}
 use Rattle.fix.specs.Sets.{Set, setAfter}
 use Rattle.fix.specs.States.{State}
-use Rattle.fix.specs.Whole.{answerAfter}
+use Rattle.fix.specs.Answer.{answerAfter}
 
 module _ (t : State) (h : Head) (work : List ℕ) where
   pub refuses : t .refused ≡ true → FixedIs.Refused (t .refusal) ≡ answerAfter t h work

@@ -2,5 +2,6 @@ pub mod Sets
 pub mod States
 pub mod Turns
 pub mod Passes
-pub mod Whole
+pub mod Start
+pub mod Answer
 pub mod Face

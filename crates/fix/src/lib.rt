@@ -1,22 +1,27 @@
-// Fixing a place at a node: a new set in a second table.
+// Fixing a place at a node: a new set in a second table. Two passes over the records of the first one:
+// what each becomes, and then the new records. Both go upwards: operands have lower numbers, and the
+// new records keep the old order.
 ghost use Rattle.fix.specs.Face.{Fixes};
 ghost use Rattle.fix.specs.Passes.{MayImage, ImagesDone, MayRecord, RecordsDone};
+use crate::answer::finish;
+use crate::start::again;
+use crate::start::begin;
 use crate::state::State;
 use crate::turn::image_turn;
 use crate::turn::record_turn;
-use crate::whole::again;
-use crate::whole::begin;
-use crate::whole::finish;
 use paper::Fixed;
 use paper::Head;
 use paper::Record;
+use table::RECORD_NUMBERS;
 
+mod answer;
 mod image;
+mod start;
 mod state;
 mod turn;
-mod whole;
 
-// The set with the place fixed at the node, in the target. The first pass finds the refusal 12 before the second writes anything.
+// The set with the place fixed at the node, in the target. A refusal changes nothing there, so the
+// first pass finds refusal 12 before the second writes anything.
 pub fn fix(
     head: Head,
     source: &[Record],
@@ -32,12 +37,15 @@ pub fn fix(
     let s = begin(w, head, place, node, entries);
     let t = images(source, s, &mut *work);
     let second = again(t);
-    let mut batch: [u16; 5] = [0; 5];
+    // Room for the one record of a turn.
+    let mut batch: [u16; RECORD_NUMBERS] = [0; RECORD_NUMBERS];
     let e = records(source, second, &mut *work, &mut *target, &mut batch);
     finish(e, head, &mut *work)
 }
 
-// The first pass: the image of each record of the source, in the work.
+// The first pass: the image of each record of the source, in the work, where it takes the place of the
+// weight. It ends behind the last used record, to which `at` rises by 1 a turn, or at a union of unit
+// and unit.
 fn images(source: &[Record], s: State, work: &mut [u64]) -> State
     requires { ⌜ MayImage (now source) s (now work) ⌝ }
     ensures { λ r. ⌜ ImagesDone (now (source .entry)) s (now (work .entry)) r (now (work .exit)) ⌝ }
@@ -51,7 +59,9 @@ fn images(source: &[Record], s: State, work: &mut [u64]) -> State
     t
 }
 
-// The second pass: the new records, in the target.
+// The second pass: the new records, in the target. It ends behind the last used record, to which `at`
+// rises by 1 a turn; where the first pass was refused it makes no turn. A record goes into the target
+// as numbers, by way of `batch`: only `table` writes structs into a lent table.
 fn records(
     source: &[Record],
     s: State,
@@ -67,6 +77,7 @@ fn records(
         let k = t.at;
         let r = source[k];
         t = record_turn(t, r, &mut *work, &mut *batch);
+        // A turn that makes no record stores none: `count` is 0 then.
         let from = t.from;
         let count = t.count;
         table::store(&mut *target, from, &*batch, count);

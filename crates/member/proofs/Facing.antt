@@ -34,7 +34,8 @@ use Rattle.sound.specs.declared.Weighed.the-variants as WeighedIs
 use Rattle.member.specs.Driving.{Driven, Ready, Starts}
 use Rattle.member.specs.Face.{Members}
 use Rattle.member.specs.Pass.{State, answerOf, stopped}
-use Rattle.member.specs.Whole.{FewPlaces, Finishes, begun, cleared, firstOf, startOf}
+use Rattle.member.specs.Answer.{Finishes, cleared}
+use Rattle.member.specs.Start.{FewPlaces, begun, firstOf, startOf}
 use Rattle.member.proofs.Restricted.{fits-restricted, restricted, restricted-none}
 
 -- ---- the work

@@ -15,7 +15,7 @@ use Rattle.paper.specs.Questions.{hasPlace}
 use Rattle.paper.specs.Refusals.{entriesFit, over}
 use Rattle.paper.specs.Row.{Row}
 use Rattle.member.specs.Rows.{stands}
-use Rattle.member.specs.Whole.{entryFits}
+use Rattle.member.specs.Start.{entryFits}
 
 -- ---- entries written one after the other
 -- the first i entries are the new ones, the others stay

@@ -1,5 +1,6 @@
 pub mod Rows
 pub mod Pass
 pub mod Driving
-pub mod Whole
+pub mod Start
+pub mod Answer
 pub mod Face

@@ -1,5 +1,7 @@
-// Project: a byte 1 for each node that stands at a place in some row of a set, else 0. One pass downwards from the root marks the
-// records under it; the singles that are met keep their nodes in the work.
+// Project: a byte 1 for each node that stands at a place in some row of a set, else 0. One pass
+// downwards from the root marks the records under it, since not every used record is; the singles that
+// are met keep their nodes in the work. A record under the root lists some row, and each of its rows
+// is part of one of the root's: so what it has at the place stands there in some row of the set.
 ghost use Rattle.project.specs.Face.{Projects};
 ghost use Rattle.project.specs.Passing.{Ready, Driven};
 use crate::marks::finish;
@@ -15,7 +17,8 @@ mod pass;
 mod start;
 mod state;
 
-// The marks of a place's nodes, in the lent output.
+// The marks of a place's nodes, in the lent output. It is written at the end, when nothing can refuse
+// any more; `begin` is told its length, since 10 is found there.
 pub fn project(
     head: Head,
     table: &[Record],
@@ -32,7 +35,8 @@ pub fn project(
     finish(e, &mut *work, &mut *out)
 }
 
-// All turns, from the root down to record 0.
+// All turns, from the root down. It ends with record 0, to which `at` falls by 1 a turn. Operands have
+// lower numbers, so a record has its mark, if it gets one, when its turn comes.
 fn drive(table: &[Record], s: State, work: &mut [u64]) -> State
     requires { ⌜ Ready (now table) s (now work) ⌝ }
     ensures { λ r. ⌜ Driven (now (table .entry)) s (now (work .entry)) r (now (work .exit)) ⌝ }

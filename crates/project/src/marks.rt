@@ -1,4 +1,5 @@
-// The end of a projection: the nodes that the work keeps are marked in the output, and the work is cleared.
+// The end of a projection: the nodes that the work keeps are marked in the output, and the work is
+// cleared.
 ghost use mathlib.Core.Path.{_≡_};
 ghost use Prim.Native.Nat.{_≤_};
 ghost use lib.ListN.{length, replicate, take};
@@ -7,27 +8,31 @@ ghost use Rattle.project.specs.Marks.{Kept, Marking, marksIn, Finishable
 use crate::state::State;
 use paper::Projected;
 
-// The first n bytes, set to 0.
+// The first n bytes, set to 0, whatever the caller left there.
 fn unmark(out: &mut [u8], n: usize)
     requires { ⌜ n ≤ length (now out) ⌝ }
     ensures { λ _. ⌜ now (out .exit) ≡ over (replicate n 0) (now (out .entry)) ⌝ }
 {
     let mut i = 0;
+    // Ends at `n`, to which `i` rises by 1 a turn.
     while i < n {
         out[i] = 0;
         i += 1;
     }
 }
 
-// A byte 1 for each node that one of the first n cells keeps. The cells are cleared.
+// A byte 1 for each node that one of the first n cells keeps. The cells are cleared on the way, so the
+// work is gone through once.
 fn mark(work: &mut [u64], n: usize, out: &mut [u8])
     requires { ⌜ Kept (now work) n (length (now out)) ⌝ }
     ensures { λ _. ⌜ Marking (now (work .entry)) n (now (out .entry)) (now (work .exit)) (now (out .exit)) ⌝ }
 {
     let mut i = 0;
+    // Ends at `n`, to which `i` rises by 1 a turn.
     while i < n {
         let cell = work[i];
         work[i] = 0;
+        // A node of the tree, as every record of a sound set has it; the output has a byte for each.
         if cell != 0 {
             let node = (cell - 1) as usize;
             out[node] = 1;
@@ -36,7 +41,8 @@ fn mark(work: &mut [u64], n: usize, out: &mut [u8])
     }
 }
 
-// A byte for each node, by the first cells. The cells are cleared.
+// A byte for each node, by the first cells. The cells are cleared. Several may keep one node, and none
+// keeps those that stand nowhere: so all bytes are 0 before some are 1.
 fn write_marks(work: &mut [u64], used: usize, out: &mut [u8], nodes: usize)
     requires { ⌜ Kept (now work) used nodes × (nodes ≤ length (now out)) ⌝ }
     ensures { λ _. ⌜ (now (work .exit) ≡ over (replicate used 0) (now (work .entry)))
@@ -46,6 +52,7 @@ fn write_marks(work: &mut [u64], used: usize, out: &mut [u8], nodes: usize)
     mark(&mut *work, used, &mut *out);
 }
 
+// The marks, or the refusal, which leaves both buffers as they are.
 pub(crate) fn finish(e: State, work: &mut [u64], out: &mut [u8]) -> Projected
     requires { ⌜ Finishable e (now work) (now out) ⌝ }
     ensures { λ r. ⌜ Finishes e (now (work .entry)) (now (out .entry)) r (now (work .exit)) (now (out .exit)) ⌝ }

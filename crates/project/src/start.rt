@@ -1,7 +1,9 @@
-// The beginning of a projection: the refusals, the cleared work, and the root's mark.
+// The beginning of a projection: the refusals, the cleared work, and the root's mark. From here on the
+// work has marks in the place of weights.
 ghost use mathlib.Core.Path.{_≡_};
 ghost use Prim.Native.Nat.{_≤_};
 ghost use Rattle.project.specs.Starting.{refusedState, rootState, rootMarked, started, startedWork, Begins};
+use crate::state::MARKED;
 use crate::state::State;
 use paper::Head;
 use paper::Projected;
@@ -10,6 +12,7 @@ use paper::Set;
 use places::is_open;
 use sound::Weighed;
 
+// No turn is taken, and nothing is written or cleared at the end: the work is as it is to be.
 fn refused(why: Refusal) -> State
     ensures { λ s. ⌜ s ≡ refusedState why ⌝ }
 {
@@ -23,7 +26,8 @@ fn refused(why: Refusal) -> State
     }
 }
 
-// The pass at the root, if the set has one: its record is marked.
+// The pass at the root, if the set has one: its record is marked. Empty has no row, and no node stands
+// in the row of unit: no byte is 1 then.
 fn at_root(head: Head, work: &mut [u64], place: u16) -> State
     requires { ⌜ 1 ≤ place ⌝ }
     ensures { λ s. ⌜ (s ≡ rootState head place (head .set)) × (now (work .exit) ≡ rootMarked (head .set) (now (work .entry))) ⌝ }
@@ -42,8 +46,9 @@ fn at_root(head: Head, work: &mut [u64], place: u16) -> State
         Set::Unit => s,
         Set::Record(number) => {
             let root = number as usize;
+            // Always so where the set is sound; but this function asks for nothing of the work.
             if root < work.len() {
-                work[root] = 1;
+                work[root] = MARKED;
             }
             s.at = root;
             s.going = true;
@@ -52,7 +57,8 @@ fn at_root(head: Head, work: &mut [u64], place: u16) -> State
     }
 }
 
-// Refusals 7 and 10, or the pass over a sound set.
+// Refusals 7 and 10, or the pass over a sound set. The weights are not needed: they go before the
+// tests, so that a refusal finds the work cleared too.
 fn start(head: Head, work: &mut [u64], place: u16, room: usize) -> State
     ensures { λ s. ⌜ (s ≡ started head place room) × (now (work .exit) ≡ startedWork head place room (now (work .entry))) ⌝ }
 {
@@ -66,6 +72,7 @@ fn start(head: Head, work: &mut [u64], place: u16, room: usize) -> State
     at_root(head, &mut *work, place)
 }
 
+// Where the set has been refused, `weigh` has left the work as a refusal does.
 pub(crate) fn begin(w: Weighed, head: Head, work: &mut [u64], place: u16, room: usize) -> State
     ensures { λ s. ⌜ Begins w head (now (work .entry)) place room s (now (work .exit)) ⌝ }
 {

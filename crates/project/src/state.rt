@@ -1,8 +1,12 @@
 // Where a projection stands between two turns.
 use paper::Projected;
 
-// `at` is the record that is looked at next, `index` the place's, from 0. The others stay: the records used, the nodes, and the answer,
-// which is a refusal only where no turn is taken.
+// The cell of a record under the root that is still to be looked at. A single that is passed may keep
+// the same number, for node 0; but a record's turn comes once.
+pub(crate) const MARKED: u64 = 1;
+
+// `at` is the record that is looked at next, `index` the place's, from 0. The others stay: the records
+// used, the nodes, and the answer, which is a refusal only where no turn is taken.
 pub(crate) struct State {
     pub(crate) at: usize,
     pub(crate) index: usize,

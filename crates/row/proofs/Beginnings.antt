@@ -6,7 +6,7 @@ use borrow.Author.Tests.{le-leb, le-ltb, lt-leb, lt-ltb}
 use Rattle.paper.specs.declared.Head.{Head}
 use Rattle.paper.specs.declared.Refusal.the-variants.{RowNumber, ShortOutput}
 use Rattle.sound.specs.Counting.{rowsInSet}
-use Rattle.row.specs.Whole.{refusedWith, rootIn, seeking, started}
+use Rattle.row.specs.Start.{refusedWith, rootIn, seeking, started}
 
 module _ (h : Head) (work : List ℕ) (number room : ℕ) where
   pub number-refused : rowsInSet work (h .set) ≤ number → started h work number room ≡ refusedWith RowNumber (h .used)

@@ -11,7 +11,7 @@ use Rattle.paper.specs.Questions.{hasPlace}
 use Rattle.paper.specs.Records.{blankEntry}
 use Rattle.paper.specs.Row.{Row, blank}
 use Rattle.paper.specs.Sound.{entry}
-use Rattle.sound.specs.Steps.{flagIn, rowsIn}
+use Rattle.sound.specs.Weights.{flagIn, rowsIn}
 use Rattle.sound.proofs.WeightParts.{below-sixteen, flag-in, rows-in}
 use Rattle.row.specs.Descent.{Asked, Record, State, flagAt, lower, lowerFrom, rowsAt}
 use Rattle.row.specs.Descending.{Answerable, Filled, Standing, Starting, rowsOf, sought, soughtRow, usedBy}

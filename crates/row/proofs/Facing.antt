@@ -27,7 +27,8 @@ use Rattle.sound.proofs.Answered.{refused-reply, refused-work, sound-clears, so
 use Rattle.row.specs.Descent.{Asked, State}
 use Rattle.row.specs.Descending.{Descended, Ready}
 use Rattle.row.specs.Face.{Numbers}
-use Rattle.row.specs.Whole.{Begins, Finishes, Writable, refusedWith, rootIn, seeking, started}
+use Rattle.row.specs.Output.{Finishes, Writable}
+use Rattle.row.specs.Start.{Begins, refusedWith, rootIn, seeking, started}
 use Rattle.row.proofs.Beginnings.{number-refused, room-refused, seeks}
 use Rattle.row.proofs.Searching.{counts, search-finds, search-ready}
 

@@ -22,7 +22,7 @@ use Rattle.sound.specs.Weights.{weights}
 use Rattle.sound.proofs.Cells.{cell, cell-rows, weighed-length}
 use Rattle.row.specs.Descent.{State, openFrom}
 use Rattle.row.specs.Descending.{Answerable, Descended, Filled, Ready, Starting}
-use Rattle.row.specs.Whole.{blanks, rootIn, seeking}
+use Rattle.row.specs.Start.{blanks, rootIn, seeking}
 use Rattle.row.proofs.Descents.{all-found, at-start, sought-blank}
 use Rattle.row.proofs.Flags.{first-open}
 

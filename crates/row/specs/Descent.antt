@@ -9,7 +9,7 @@ use lib.ListN.{length, getD, set}
 pub use Rattle.paper.specs.declared.Record.{Record}
 use Rattle.paper.specs.Questions.{hasPlace}
 use Rattle.paper.specs.Records.{byKind}
-use Rattle.sound.specs.Steps.{flagIn, rowsIn}
+use Rattle.sound.specs.Weights.{flagIn, rowsIn}
 pub use Rattle.row.specs.declared.state.Asked.{Asked}
 pub use Rattle.row.specs.declared.state.State.{State}
 

@@ -1,4 +1,5 @@
 pub mod Descent
 pub mod Descending
-pub mod Whole
+pub mod Start
+pub mod Output
 pub mod Face

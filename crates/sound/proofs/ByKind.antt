@@ -9,7 +9,8 @@ use lib.Dec.{eqb, leb, ltb}
 use lib.ListN.{getD}
 use Rattle.paper.specs.declared.Record.{Record}
 use Rattle.paper.specs.Sound.{apart, mostRows}
-use Rattle.sound.specs.Steps.{flagIn, ifFew, productRows, rowsBy, rowsIn, singleRows, unionRows}
+use Rattle.sound.specs.OneRecord.{ifFew, productRows, rowsBy, singleRows, unionRows}
+use Rattle.sound.specs.Weights.{flagIn, rowsIn}
 
 module _ (r : Record) (at : ℕ) (weights : List ℕ) where
   abbrev left : ℕ

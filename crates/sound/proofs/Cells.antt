@@ -14,8 +14,7 @@ use Rattle.paper.specs.Row.{Row}
 use Rattle.paper.specs.Sound.{entry}
 use Rattle.laws.specs.QuestionCauses.{Sound}
 use Rattle.laws.proofs.Listings.{length-listings}
-use Rattle.sound.specs.Steps.{rowsIn}
-use Rattle.sound.specs.Weights.{weight, weights, weightsFor}
+use Rattle.sound.specs.Weights.{rowsIn, weight, weights, weightsFor}
 use Rattle.sound.proofs.Overwriting.{over-length, over-within}
 use Rattle.sound.proofs.RowCounts.{some-rows}
 use Rattle.sound.proofs.WeightParts.{below-sixteen, rows-in}

@@ -22,9 +22,9 @@ use Rattle.laws.proofs.SoundTest.{is-sound, sound-is}
 use Rattle.laws.proofs.Tests.{Says, says-and, says-at-most, says-below, says-equal, says-nothing}
 use Rattle.sound.specs.Face.{Weighs}
 use Rattle.sound.specs.Passing.{Passed, Ready, Weighing}
-use Rattle.sound.specs.Steps.{State, flagIn}
-use Rattle.sound.specs.Weights.{Weighed, saysWeighed, weighedWork, weighing, weights}
-use Rattle.sound.specs.Whole.{Judges, begun, headFits, setFits}
+use Rattle.sound.specs.OneRecord.{State}
+use Rattle.sound.specs.Weights.{Weighed, flagIn, saysWeighed, weighedWork, weighing, weights}
+use Rattle.sound.specs.Head.{Judges, begun, headFits, setFits}
 use Rattle.sound.proofs.Cells.{weights-at, weights-length}
 use Rattle.sound.proofs.Overwriting.{over-is, zeros-agree}
 use Rattle.sound.proofs.WeightParts.{below-sixteen, flag-in}

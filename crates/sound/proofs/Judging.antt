@@ -8,8 +8,8 @@ use lib.ListN.{length, replicate}
 use Rattle.paper.specs.declared.Head.{Head}
 use Rattle.paper.specs.declared.Refusal.the-variants.{NotSound, ShortWork}
 use Rattle.paper.specs.Refusals.{over}
-use Rattle.sound.specs.Steps.{State}
-use Rattle.sound.specs.Whole.{Judges, setFits}
+use Rattle.sound.specs.OneRecord.{State}
+use Rattle.sound.specs.Head.{Judges, setFits}
 use Rattle.sound.specs.declared.Weighed.the-variants.{Refused, Sound}
 
 module _ (t : State) (h : Head) (work : List ℕ) where

@@ -6,7 +6,7 @@ use Prim.Native.Nat.{_*_, _+_, ℕ}
 use native.Mathlib.Omega.{arith}
 use lib.ListN.{set}
 use Rattle.paper.specs.declared.Record.{Record}
-use Rattle.sound.specs.Steps.{State, Steps, failed, further, recordFits, rowsBy, rowsFound, weightFor}
+use Rattle.sound.specs.OneRecord.{State, Steps, failed, further, recordFits, rowsBy, rowsFound, weightFor}
 use Rattle.sound.proofs.WeightParts.{no-weight, some-weight}
 
 module _ (t : State) (r : Record) (work : List ℕ) where

@@ -15,7 +15,8 @@ use Rattle.laws.specs.QuestionCauses.{IsProduct, IsSingle, IsUnion}
 use Rattle.laws.proofs.Lists.{both-true, which}
 use Rattle.laws.proofs.Tests.{Says, says-and, says-below, says-equal, says-nothing}
 use Rattle.sound.specs.Passing.{SoundRecord, Weighing}
-use Rattle.sound.specs.Steps.{State, flagIn, ifFew, productRows, recordFits, rowsBy, rowsFound, rowsIn, singleRows, unionRows}
+use Rattle.sound.specs.OneRecord.{State, ifFew, productRows, recordFits, rowsBy, rowsFound, singleRows, unionRows}
+use Rattle.sound.specs.Weights.{flagIn, rowsIn}
 use Rattle.sound.proofs.ByKind.{by-none, by-product, by-single, by-union, few-rows, left-later, right-later}
 use Rattle.sound.proofs.RowCounts.{product-count, rowsAt, single-count, union-count}
 use Rattle.sound.proofs.WeightParts.{below-sixteen, flag-in, rows-in}

@@ -6,7 +6,8 @@ use native.Mathlib.Nat.{pow-le-pow-right}
 use native.Mathlib.Omega.{arith}
 use borrow.Author.Tests.{eqb-true, ne-eqb}
 use lib.Dec.{eqb}
-use Rattle.sound.specs.Steps.{flagIn, rowsIn, weightFor}
+use Rattle.sound.specs.OneRecord.{weightFor}
+use Rattle.sound.specs.Weights.{flagIn, rowsIn}
 
 -- a flag of an arity up to 4
 pub below-sixteen : {flag arity : ℕ} → arity ≤ 4 → flag < 2 ^ arity → flag < 16

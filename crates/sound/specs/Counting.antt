@@ -10,8 +10,7 @@ use Rattle.paper.specs.declared.Refusal.{Refusal}
 use Rattle.paper.specs.declared.Set.{Set}
 use Rattle.paper.specs.declared.Set.the-variants.{Empty as empty, Unit as unit, Record as at}
 use Rattle.paper.specs.Refusals.{over}
-use Rattle.sound.specs.Steps.{rowsIn}
-use Rattle.sound.specs.Weights.{Weighed}
+use Rattle.sound.specs.Weights.{Weighed, rowsIn}
 use Rattle.sound.specs.declared.Weighed.the-variants as WeighedIs
 
 -- the rows of a set

@@ -1,6 +1,6 @@
 pub mod Weights
 pub mod Face
-pub mod Steps
+pub mod OneRecord
 pub mod Passing
-pub mod Whole
+pub mod Head
 pub mod Counting

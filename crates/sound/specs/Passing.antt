@@ -9,7 +9,7 @@ use Rattle.paper.specs.declared.Record.{Record}
 use Rattle.paper.specs.Records.{listings}
 use Rattle.paper.specs.Sound.{entry, mostRows}
 use Rattle.laws.specs.QuestionCauses.{SoundAt}
-use Rattle.sound.specs.Steps.{State}
+use Rattle.sound.specs.OneRecord.{State}
 use Rattle.sound.specs.Weights.{weight}
 
 -- the pass begins at the first record, and goes on unless something has failed or there is none

@@ -1,7 +1,7 @@
 -- What `weigh` tells, and what it leaves in work for a sound set: one number a record used, 16 times the rows that the record lists and
 -- its flag, which is below 16.
 use mathlib.Core.List.{List, [], _∷_}
-use Prim.Native.Nat.{ℕ, _+_, _*_}
+use Prim.Native.Nat.{ℕ, _+_, _*_, _/_, _%_}
 use lib.ListN.{length}
 use Rattle.paper.specs.declared.Record.{Record}
 use Rattle.paper.specs.declared.Head.{Head}
@@ -19,6 +19,13 @@ saysWeighed (WeighedIs.Refused r) = refused (numberOf r)
 
 abbrev pub weight : List Row → Record → ℕ
 weight rows r = 16 * length rows + r .flag
+
+-- the rows and the flag in a weight
+abbrev pub rowsIn : ℕ → ℕ
+rowsIn weight = weight / 16
+
+abbrev pub flagIn : ℕ → ℕ
+flagIn weight = weight % 16
 
 -- of each record with its rows
 unfoldable pub weightsFor : List (List Row) → List Record → List ℕ

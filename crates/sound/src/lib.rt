@@ -1,5 +1,7 @@
-// The test that a set is sound, and how many rows each of its records lists: one pass over the used records, for every question. Then
-// the first question, how many rows there are.
+// The test that a set is sound, and how many rows each of its records lists: one pass over the used
+// records, with which every question begins. Then the first question, how many rows there are.
+// First these two and the loop over the table, then what the questions need besides: the rows of a
+// set, and the cleared work. How a weight is read, in a module of its own, is for them too.
 ghost use mathlib.Core.Path.{_≡_};
 ghost use Prim.Native.Nat.{min};
 ghost use lib.ListN.{length, replicate};
@@ -8,10 +10,11 @@ ghost use Rattle.sound.specs.Counting.{rowsInSet};
 ghost use Rattle.sound.specs.Face.{Weighs, Counts};
 ghost use Rattle.sound.specs.Passing.{Ready, Passed};
 use crate::counted::finish;
+use crate::head::begin;
+use crate::head::judge;
 use crate::record::next;
 use crate::state::State;
-use crate::whole::begin;
-use crate::whole::judge;
+use crate::weight::rows_in;
 use paper::Counted;
 use paper::Head;
 use paper::Record;
@@ -19,16 +22,19 @@ use paper::Refusal;
 use paper::Set;
 
 mod counted;
+mod head;
 mod record;
 mod state;
-mod whole;
+pub mod weight;
 
+// What `weigh` found. Where the set is sound, the work has the weights of its used records.
 pub enum Weighed {
     Sound,
     Refused(Refusal),
 }
 
-// Refusals 5 and 11, or the weights of the used records in the work.
+// Refusals 5 and 11, or the weights of the used records in the work. A caller that is told `Sound`
+// has to clear the work; after a refusal it is as the paper wants it.
 pub fn weigh(head: Head, table: &[Record], work: &mut [u64]) -> Weighed
     ensures { λ r. ⌜ Weighs head (now (table .entry)) (now (work .entry)) r (now (work .exit)) ⌝ }
 {
@@ -47,7 +53,9 @@ pub fn count(head: Head, table: &[Record], work: &mut [u64]) -> Counted
     finish(w, head, &mut *work)
 }
 
-// All used records, one after the other.
+// All used records, one after the other. It ends behind the last of them, since `at` rises by 1 a
+// turn, or at the first that is not sound. A loop over a slice of structs is proved by hand, so all
+// that is done with a record stands in `next`.
 fn drive(table: &[Record], s: State, work: &mut [u64]) -> State
     requires { ⌜ Ready (now table) s (now work) ⌝ }
     ensures { λ e. ⌜ Passed (now (table .entry)) s (now (work .entry)) e (now (work .exit)) ⌝ }
@@ -61,7 +69,8 @@ fn drive(table: &[Record], s: State, work: &mut [u64]) -> State
     t
 }
 
-// How many rows a set lists, by the weights in the work. Of a record without one it tells 0.
+// How many rows a set lists, by the weights in the work. Of a record that the work does not reach it
+// tells 0: that is no root of a sound set, but a public function answers for any.
 pub fn set_rows(set: Set, work: &[u64]) -> u64
     ensures { λ n. ⌜ n ≡ rowsInSet (now (work .entry)) set ⌝ }
 {
@@ -71,7 +80,7 @@ pub fn set_rows(set: Set, work: &[u64]) -> u64
         Set::Record(i) => {
             let root = i as usize;
             if root < work.len() {
-                work[root] / 16
+                rows_in(work[root])
             } else {
                 0
             }
@@ -86,12 +95,13 @@ fn lesser(a: usize, b: usize) -> usize
     if a < b { a } else { b }
 }
 
-// The first numbers of the work, as far as it goes, set to 0.
+// The first numbers of the work, as far as it goes, set to 0: what each question leaves of its work.
 pub fn clear(work: &mut [u64], used: usize)
     ensures { λ _. ⌜ now (work .exit) ≡ over (replicate (min used (length (now (work .entry)))) 0) (now (work .entry)) ⌝ }
 {
     let n = lesser(used, work.len());
     let mut i = 0;
+    // Ends at `n`, to which `i` rises by 1 a turn.
     while i < n {
         work[i] = 0;
         i += 1;

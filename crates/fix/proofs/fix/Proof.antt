@@ -32,7 +32,8 @@ use Rattle.sound.proofs.Weighing.{handed-over, is-handed}
 use Rattle.fix.specs.Face.{Fixes}
 use Rattle.fix.specs.Passes.{MayImage, ImagesDone, MayRecord, RecordsDone}
 use Rattle.fix.specs.States.{State, restarted}
-use Rattle.fix.specs.Whole.{begun, MayFinish, Finishes}
+use Rattle.fix.specs.Answer.{MayFinish, Finishes}
+use Rattle.fix.specs.Start.{begun}
 use Rattle.fix.proofs.Facing.{AtStart, WithImages, WithRecords, starts, may-image, finds-images, may-record, makes-records, may-finish, faces}
 use Rattle.fix.proofs.state.State as S
 use Rattle.fix.proofs.state.State.Laws as S′
@@ -40,26 +41,26 @@ use Rattle.sound.proofs.weigh as weigh
 use Rattle.sound.proofs.weigh.Symbol as weigh-def
 use Rattle.sound.proofs.weigh.Symbol.{name as #weigh}
 use Rattle.sound.proofs.weigh.Met as weigh-thm
-use Rattle.fix.proofs.whole.begin as begin
-use Rattle.fix.proofs.whole.begin.Symbol as begin-def
-use Rattle.fix.proofs.whole.begin.Symbol.{name as #begin}
-use Rattle.fix.proofs.whole.begin.Met as begin-thm
+use Rattle.fix.proofs.start.begin as begin
+use Rattle.fix.proofs.start.begin.Symbol as begin-def
+use Rattle.fix.proofs.start.begin.Symbol.{name as #begin}
+use Rattle.fix.proofs.start.begin.Met as begin-thm
 use Rattle.fix.proofs.images as images
 use Rattle.fix.proofs.images.Symbol as images-def
 use Rattle.fix.proofs.images.Symbol.{name as #images}
 use Rattle.fix.proofs.images.Met as images-thm
-use Rattle.fix.proofs.whole.again as again
-use Rattle.fix.proofs.whole.again.Symbol as again-def
-use Rattle.fix.proofs.whole.again.Symbol.{name as #again}
-use Rattle.fix.proofs.whole.again.Met as again-thm
+use Rattle.fix.proofs.start.again as again
+use Rattle.fix.proofs.start.again.Symbol as again-def
+use Rattle.fix.proofs.start.again.Symbol.{name as #again}
+use Rattle.fix.proofs.start.again.Met as again-thm
 use Rattle.fix.proofs.records as records
 use Rattle.fix.proofs.records.Symbol as records-def
 use Rattle.fix.proofs.records.Symbol.{name as #records}
 use Rattle.fix.proofs.records.Met as records-thm
-use Rattle.fix.proofs.whole.finish as finish′
-use Rattle.fix.proofs.whole.finish.Symbol as finish-def
-use Rattle.fix.proofs.whole.finish.Symbol.{name as #finish}
-use Rattle.fix.proofs.whole.finish.Met as finish-thm
+use Rattle.fix.proofs.answer.finish as finish′
+use Rattle.fix.proofs.answer.finish.Symbol as finish-def
+use Rattle.fix.proofs.answer.finish.Symbol.{name as #finish}
+use Rattle.fix.proofs.answer.finish.Met as finish-thm
 use Rattle.fix.proofs.fix.Key.{name as #fix}
 use Rattle.fix.proofs.fix as fix′
 use Rattle.fix.proofs.fix.Statement as stated
@@ -454,11 +455,11 @@ fix-spec 𝓤 H 𝓜 𝓖 𝓡 =
     (a .1 .1 .1 .1 .1 .0 .ptr .0) (a .1 .1 .1 .1 .1 .0 .ptr .1) (a .1 .1 .1 .1 .1 .0 .name) (a .1 .1 .1 .1 .1 .0 .now)
     (tablesOf 𝓤 H 𝓜 (tables 𝓤 H 𝓜 𝓡 code.env))
     (cited 𝓤 H (Weigh 𝓤 H (𝓖 .A) W (𝓜 .mem) (𝓡 .run)) 𝓜 𝓡 code.env #weigh weigh-def.routine code.calls-sound·weigh (weigh-thm.met 𝓤 H 𝓜 𝓖 𝓡))
-    (cited 𝓤 H (Begin 𝓤 H (𝓖 .A) W (𝓜 .mem) (𝓡 .run)) 𝓜 𝓡 code.env #begin begin-def.routine code.calls-fix·whole·begin (begin-thm.met 𝓤 H 𝓜 𝓖 𝓡))
+    (cited 𝓤 H (Begin 𝓤 H (𝓖 .A) W (𝓜 .mem) (𝓡 .run)) 𝓜 𝓡 code.env #begin begin-def.routine code.calls-fix·start·begin (begin-thm.met 𝓤 H 𝓜 𝓖 𝓡))
     (cited 𝓤 H (Images 𝓤 H (𝓖 .A) W (𝓜 .mem) (𝓡 .run)) 𝓜 𝓡 code.env #images images-def.routine code.calls-fix·images (images-thm.met 𝓤 H 𝓜 𝓖 𝓡))
-    (cited 𝓤 H (Again 𝓤 H (𝓖 .A) W (𝓜 .mem) (𝓡 .run)) 𝓜 𝓡 code.env #again again-def.routine code.calls-fix·whole·again (again-thm.met 𝓤 H 𝓜 𝓖 𝓡))
+    (cited 𝓤 H (Again 𝓤 H (𝓖 .A) W (𝓜 .mem) (𝓡 .run)) 𝓜 𝓡 code.env #again again-def.routine code.calls-fix·start·again (again-thm.met 𝓤 H 𝓜 𝓖 𝓡))
     (cited 𝓤 H (Records 𝓤 H (𝓖 .A) W (𝓜 .mem) (𝓡 .run)) 𝓜 𝓡 code.env #records records-def.routine code.calls-fix·records (records-thm.met 𝓤 H 𝓜 𝓖 𝓡))
-    (cited 𝓤 H (Finish 𝓤 H (𝓖 .A) W (𝓜 .mem) (𝓡 .run)) 𝓜 𝓡 code.env #finish finish-def.routine code.calls-fix·whole·finish (finish-thm.met 𝓤 H 𝓜 𝓖 𝓡))
+    (cited 𝓤 H (Finish 𝓤 H (𝓖 .A) W (𝓜 .mem) (𝓡 .run)) 𝓜 𝓡 code.env #finish finish-def.routine code.calls-fix·answer·finish (finish-thm.met 𝓤 H 𝓜 𝓖 𝓡))
     (are .0) (are .1 .0 .0 .1) (are .1 .1 .0 .0 .1) (are .1 .1 .1 .0) (are .1 .1 .1 .1 .0) (are .1 .1 .1 .1 .1 .0 .0 .1)))
   where
     W : Given 𝓤 H (𝓖 .A)

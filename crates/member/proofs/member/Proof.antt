@@ -33,22 +33,23 @@ use Rattle.sound.proofs.weigh.Met as weigh-thm
 use Rattle.member.specs.Driving.{Driven, Ready}
 use Rattle.member.specs.Face.{Members}
 use Rattle.member.specs.Pass.{State}
-use Rattle.member.specs.Whole.{FewPlaces, Finishes, begun}
+use Rattle.member.specs.Answer.{Finishes}
+use Rattle.member.specs.Start.{FewPlaces, begun}
 use Rattle.member.proofs.Facing.{face, few-places, ready}
 use Rattle.member.proofs.pass.State as S
 use Rattle.member.proofs.pass.State.Laws as S′
-use Rattle.member.proofs.whole.begin as begin
-use Rattle.member.proofs.whole.begin.Symbol as begin-def
-use Rattle.member.proofs.whole.begin.Symbol.{name as #begin}
-use Rattle.member.proofs.whole.begin.Met as begin-thm
+use Rattle.member.proofs.start.begin as begin
+use Rattle.member.proofs.start.begin.Symbol as begin-def
+use Rattle.member.proofs.start.begin.Symbol.{name as #begin}
+use Rattle.member.proofs.start.begin.Met as begin-thm
 use Rattle.member.proofs.drive as drive
 use Rattle.member.proofs.drive.Symbol as drive-def
 use Rattle.member.proofs.drive.Symbol.{name as #drive}
 use Rattle.member.proofs.drive.Met as drive-thm
-use Rattle.member.proofs.whole.finish as finish′
-use Rattle.member.proofs.whole.finish.Symbol as finish-def
-use Rattle.member.proofs.whole.finish.Symbol.{name as #finish}
-use Rattle.member.proofs.whole.finish.Met as finish-thm
+use Rattle.member.proofs.answer.finish as finish′
+use Rattle.member.proofs.answer.finish.Symbol as finish-def
+use Rattle.member.proofs.answer.finish.Symbol.{name as #finish}
+use Rattle.member.proofs.answer.finish.Met as finish-thm
 use Rattle.member.proofs.member.Key.{name as #member}
 use Rattle.member.proofs.member as member′
 use Rattle.member.proofs.member.Statement as stated
@@ -317,7 +318,7 @@ member-spec 𝓤 H 𝓜 𝓖 𝓡 =
     (a .0) (a .1 .0 .ptr .0) (a .1 .0 .ptr .1) (a .1 .0 .name) (a .1 .0 .now) (a .1 .1 .0 .ptr .0) (a .1 .1 .0 .ptr .1) (a .1 .1 .0 .name) (a .1 .1 .0 .now)
     (a .1 .1 .1 .0 .ptr .0) (a .1 .1 .1 .0 .ptr .1) (a .1 .1 .1 .0 .name) (a .1 .1 .1 .0 .now) (tablesOf 𝓤 H 𝓜 (tables 𝓤 H 𝓜 𝓡 code.env))
     (cited 𝓤 H (Weigh 𝓤 H (𝓖 .A) (givenOf 𝓤 H 𝓜 𝓖) (𝓜 .mem) (𝓡 .run)) 𝓜 𝓡 code.env #weigh weigh-def.routine code.calls-sound·weigh (weigh-thm.met 𝓤 H 𝓜 𝓖 𝓡))
-    (cited 𝓤 H (Begin 𝓤 H (𝓖 .A) (givenOf 𝓤 H 𝓜 𝓖) (𝓜 .mem) (𝓡 .run)) 𝓜 𝓡 code.env #begin begin-def.routine code.calls-member·whole·begin (begin-thm.met 𝓤 H 𝓜 𝓖 𝓡))
+    (cited 𝓤 H (Begin 𝓤 H (𝓖 .A) (givenOf 𝓤 H 𝓜 𝓖) (𝓜 .mem) (𝓡 .run)) 𝓜 𝓡 code.env #begin begin-def.routine code.calls-member·start·begin (begin-thm.met 𝓤 H 𝓜 𝓖 𝓡))
     (cited 𝓤 H (Drive 𝓤 H (𝓖 .A) (givenOf 𝓤 H 𝓜 𝓖) (𝓜 .mem) (𝓡 .run)) 𝓜 𝓡 code.env #drive drive-def.routine code.calls-member·drive (drive-thm.met 𝓤 H 𝓜 𝓖 𝓡))
-    (cited 𝓤 H (Finish 𝓤 H (𝓖 .A) (givenOf 𝓤 H 𝓜 𝓖) (𝓜 .mem) (𝓡 .run)) 𝓜 𝓡 code.env #finish finish-def.routine code.calls-member·whole·finish (finish-thm.met 𝓤 H 𝓜 𝓖 𝓡))
+    (cited 𝓤 H (Finish 𝓤 H (𝓖 .A) (givenOf 𝓤 H 𝓜 𝓖) (𝓜 .mem) (𝓡 .run)) 𝓜 𝓡 code.env #finish finish-def.routine code.calls-member·answer·finish (finish-thm.met 𝓤 H 𝓜 𝓖 𝓡))
     (are .0) (are .1 .0 .0 .1) (are .1 .1 .0 .0 .1) (are .1 .1 .1 .0 .0 .1)))

@@ -16,19 +16,20 @@ use Rattle.sound.proofs.weigh.Symbol.{name as #weigh}
 use Rattle.sound.proofs.weigh.Met as weigh-thm
 use Rattle.row.specs.Descending.{Descended, Ready}
 use Rattle.row.specs.Face.{Numbers}
-use Rattle.row.specs.Whole.{Begins, Finishes, Writable}
+use Rattle.row.specs.Output.{Finishes, Writable}
+use Rattle.row.specs.Start.{Begins}
 use Rattle.row.proofs.Facing.{drive-ready, row-numbers, row-writable}
 use Rattle.row.proofs.state.State as State
 use Rattle.row.proofs.state.State.Laws as StateLaws
-use Rattle.row.proofs.whole.begin.Symbol as begin-def
-use Rattle.row.proofs.whole.begin.Symbol.{name as #begin}
-use Rattle.row.proofs.whole.begin.Met as begin-thm
+use Rattle.row.proofs.start.begin.Symbol as begin-def
+use Rattle.row.proofs.start.begin.Symbol.{name as #begin}
+use Rattle.row.proofs.start.begin.Met as begin-thm
 use Rattle.row.proofs.drive.Symbol as drive-def
 use Rattle.row.proofs.drive.Symbol.{name as #drive}
 use Rattle.row.proofs.drive.Met as drive-thm
-use Rattle.row.proofs.whole.finish.Symbol as finish-def
-use Rattle.row.proofs.whole.finish.Symbol.{name as #finish}
-use Rattle.row.proofs.whole.finish.Met as finish-thm
+use Rattle.row.proofs.output.finish.Symbol as finish-def
+use Rattle.row.proofs.output.finish.Symbol.{name as #finish}
+use Rattle.row.proofs.output.finish.Met as finish-thm
 use Rattle.row.proofs.row.Key.{name as #row}
 use Rattle.row.proofs.row as row
 use Rattle.row.proofs.row.Statement as stated
@@ -65,6 +66,6 @@ row-spec 𝓤 H 𝓜 𝓖 𝓡 =
     (tables 𝓤 H 𝓜 𝓡 code.env .C) (tables 𝓤 H 𝓜 𝓡 code.env .Λ) #row code.function (code.unfolded 𝓤 H 𝓜 𝓡)
     (output-meets types law 𝓤 H (𝓖 .A) (givenOf 𝓤 H 𝓜 𝓖) (tyInt w16) #weigh #begin #drive #finish (tablesOf 𝓤 H 𝓜 (tables 𝓤 H 𝓜 𝓡 code.env))
     (cited 𝓤 H (Weigh types law 𝓤 H (𝓖 .A)) 𝓜 𝓡 code.env #weigh weigh-def.routine code.calls-sound·weigh (weigh-thm.met 𝓤 H 𝓜 𝓖 𝓡))
-    (cited 𝓤 H (Begin types law 𝓤 H (𝓖 .A)) 𝓜 𝓡 code.env #begin begin-def.routine code.calls-row·whole·begin (begin-thm.met 𝓤 H 𝓜 𝓖 𝓡))
+    (cited 𝓤 H (Begin types law 𝓤 H (𝓖 .A)) 𝓜 𝓡 code.env #begin begin-def.routine code.calls-row·start·begin (begin-thm.met 𝓤 H 𝓜 𝓖 𝓡))
     (cited 𝓤 H (Drive types law 𝓤 H (𝓖 .A)) 𝓜 𝓡 code.env #drive drive-def.routine code.calls-row·drive (drive-thm.met 𝓤 H 𝓜 𝓖 𝓡))
-    (cited 𝓤 H (Finish types law 𝓤 H (𝓖 .A)) 𝓜 𝓡 code.env #finish finish-def.routine code.calls-row·whole·finish (finish-thm.met 𝓤 H 𝓜 𝓖 𝓡)))
+    (cited 𝓤 H (Finish types law 𝓤 H (𝓖 .A)) 𝓜 𝓡 code.env #finish finish-def.routine code.calls-row·output·finish (finish-thm.met 𝓤 H 𝓜 𝓖 𝓡)))

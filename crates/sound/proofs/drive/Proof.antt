@@ -22,7 +22,7 @@ use Rattle.paper.specs.Sound.{entry}
 use Rattle.laws.proofs.Lists.{both-true}
 use Rattle.walks.proofs.Asking.{Hand, Law, Next, asking-meets}
 use Rattle.sound.specs.Passing.{AllSound, Passed, Ready, SoundRecord, Weighing}
-use Rattle.sound.specs.Steps.{State, Steps, Weighable, failed, further, rowsFound}
+use Rattle.sound.specs.OneRecord.{State, Steps, Weighable, failed, further, rowsFound}
 use Rattle.sound.proofs.OneMore.{weighs-more}
 use Rattle.sound.proofs.RowCounts.{rowsAt, some-rows}
 use Rattle.sound.proofs.StateShape.{at-field, shape}

@@ -18,21 +18,21 @@ use Rattle.paper.specs.declared.Head.{Head}
 use Rattle.paper.specs.declared.Record.{Record}
 use Rattle.sound.specs.Face.{Weighs}
 use Rattle.sound.specs.Passing.{Passed, Ready}
-use Rattle.sound.specs.Steps.{State}
+use Rattle.sound.specs.OneRecord.{State}
 use Rattle.sound.specs.Weights.{Weighed}
-use Rattle.sound.specs.Whole.{Judges, begun}
+use Rattle.sound.specs.Head.{Judges, begun}
 use Rattle.sound.proofs.Facing.{face, ready}
 use Rattle.sound.proofs.Heads.{head, weighed}
 use Rattle.sound.proofs.state.State as S
 use Rattle.sound.proofs.state.State.Laws as S′
-use Rattle.sound.proofs.whole.begin as begin
-use Rattle.sound.proofs.whole.begin.Symbol as begin-def
-use Rattle.sound.proofs.whole.begin.Symbol.{name as #begin}
-use Rattle.sound.proofs.whole.begin.Met as begin-thm
-use Rattle.sound.proofs.whole.judge as judge
-use Rattle.sound.proofs.whole.judge.Symbol as judge-def
-use Rattle.sound.proofs.whole.judge.Symbol.{name as #judge}
-use Rattle.sound.proofs.whole.judge.Met as judge-thm
+use Rattle.sound.proofs.head.begin as begin
+use Rattle.sound.proofs.head.begin.Symbol as begin-def
+use Rattle.sound.proofs.head.begin.Symbol.{name as #begin}
+use Rattle.sound.proofs.head.begin.Met as begin-thm
+use Rattle.sound.proofs.head.judge as judge
+use Rattle.sound.proofs.head.judge.Symbol as judge-def
+use Rattle.sound.proofs.head.judge.Symbol.{name as #judge}
+use Rattle.sound.proofs.head.judge.Met as judge-thm
 use Rattle.sound.proofs.drive as drive
 use Rattle.sound.proofs.drive.Symbol as drive-def
 use Rattle.sound.proofs.drive.Symbol.{name as #drive}
@@ -226,7 +226,7 @@ weigh-spec 𝓤 H 𝓜 𝓖 𝓡 =
     (λ κs qs bounds a g are. via 𝓤 _ (fst∗ 𝓤 _ (emp 𝓤))
     (walk 𝓤 H (𝓖 .A) (givenOf 𝓤 H 𝓜 𝓖) (𝓜 .mem) (𝓡 .run) (κs .0) (κs .1 .0) (qs .0) (qs .1 .0) (a .0) (a .1 .0 .ptr .0) (a .1 .0 .ptr .1) (a .1 .0 .name)
     (a .1 .0 .now) (a .1 .1 .0 .ptr .0) (a .1 .1 .0 .ptr .1) (a .1 .1 .0 .name) (a .1 .1 .0 .now) (tablesOf 𝓤 H 𝓜 (tables 𝓤 H 𝓜 𝓡 code.env))
-    (cited 𝓤 H (Begin 𝓤 H (𝓖 .A) (givenOf 𝓤 H 𝓜 𝓖) (𝓜 .mem) (𝓡 .run)) 𝓜 𝓡 code.env #begin begin-def.routine code.calls-sound·whole·begin (begin-thm.met 𝓤 H 𝓜 𝓖 𝓡))
+    (cited 𝓤 H (Begin 𝓤 H (𝓖 .A) (givenOf 𝓤 H 𝓜 𝓖) (𝓜 .mem) (𝓡 .run)) 𝓜 𝓡 code.env #begin begin-def.routine code.calls-sound·head·begin (begin-thm.met 𝓤 H 𝓜 𝓖 𝓡))
     (cited 𝓤 H (Drive 𝓤 H (𝓖 .A) (givenOf 𝓤 H 𝓜 𝓖) (𝓜 .mem) (𝓡 .run)) 𝓜 𝓡 code.env #drive drive-def.routine code.calls-sound·drive (drive-thm.met 𝓤 H 𝓜 𝓖 𝓡))
-    (cited 𝓤 H (Judge 𝓤 H (𝓖 .A) (givenOf 𝓤 H 𝓜 𝓖) (𝓜 .mem) (𝓡 .run)) 𝓜 𝓡 code.env #judge judge-def.routine code.calls-sound·whole·judge (judge-thm.met 𝓤 H 𝓜 𝓖 𝓡))
+    (cited 𝓤 H (Judge 𝓤 H (𝓖 .A) (givenOf 𝓤 H 𝓜 𝓖) (𝓜 .mem) (𝓡 .run)) 𝓜 𝓡 code.env #judge judge-def.routine code.calls-sound·head·judge (judge-thm.met 𝓤 H 𝓜 𝓖 𝓡))
     (are .0) (are .1 .0 .0 .1) (are .1 .1 .0 .0 .1)))

@@ -1,5 +1,6 @@
 -- `descent::union_side` goes by the row number: one of the left rows, or one of the right.
 use mathlib.Core.Path.{_∙_, refl}
+use Prim.Native.Nat.{_<_, _≤_}
 use borrow.Author.Needs.{needs}
 use borrow.Author.Tests.{le-ltb, lt-ltb}
 use Rattle.row.specs.Descent.{rowsAt}
@@ -9,19 +10,24 @@ use Rattle.row.proofs.descent.union_side.Tie as tie
 cast-left : tie.Need-cast-left
 cast-left c = search needs
 
-mul-rows : tie.Need-mul-rows
-mul-rows c = search needs
+mul-rows-in : tie.Need-mul-rows-in
+mul-rows-in c = search needs
 
-shared-slice-read-rows : tie.Need-shared-slice-read-rows
-shared-slice-read-rows c = search needs
+shared-slice-read-rows-in : tie.Need-shared-slice-read-rows-in
+shared-slice-read-rows-in c = search needs
+
+rows-in-requires : tie.Need-rows-in-requires
+rows-in-requires c κs = search needs
 
 begin-lower-requires : tie.Need-begin-lower-requires
 begin-lower-requires c κs = search needs
 
 returns : tie.Need-returns
 returns c =
-    let a = c .before .before .before .before .before .before .args in
-    c .begin-lower .ensures ∙ rw (lt-ltb (a .t .number) (rowsAt (a .work .now) (a .r .left)) (c .before .if1 .taken)) refl
+    let read = c .before .before .before in
+    let a = read .before .before .before .before .args in
+    let on-the-left : a .t .number < rowsAt (a .work .now) (a .r .left) = rw (read .rows-in .ensures) at (c .before .if1 .taken) in
+    c .begin-lower .ensures ∙ rw (lt-ltb (a .t .number) (rowsAt (a .work .now) (a .r .left)) on-the-left) refl
 
 cast-begin-lower : tie.Need-cast-begin-lower
 cast-begin-lower c = search needs
@@ -31,16 +37,19 @@ begin-lower-requires-2 c κs = search needs
 
 returns-2 : tie.Need-returns-2
 returns-2 c =
-    let a = c .before .before .before .before .before .before .before .before .args in
-    c .begin-lower2 .ensures ∙ rw (le-ltb (a .t .number) (rowsAt (a .work .now) (a .r .left)) (c .before .before .before .if1 .left)) refl
+    let read = c .before .before .before .before .before in
+    let a = read .before .before .before .before .args in
+    let on-the-right : rowsAt (a .work .now) (a .r .left) ≤ a .t .number = rw (read .rows-in .ensures) at (c .before .before .before .if1 .left) in
+    c .begin-lower2 .ensures ∙ rw (read .rows-in .ensures, le-ltb (a .t .number) (rowsAt (a .work .now) (a .r .left)) on-the-right) refl
 
 pub union-side-spec : {M : Type 1} → statement M
 union-side-spec =
     tie.close
     (tie.spec
     cast-left
-    mul-rows
-    shared-slice-read-rows
+    mul-rows-in
+    shared-slice-read-rows-in
+    rows-in-requires
     begin-lower-requires
     returns
     cast-begin-lower

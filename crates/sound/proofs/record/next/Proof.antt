@@ -3,7 +3,7 @@ use mathlib.Core.Bool.{true}
 use mathlib.Core.Path.{_∙_, _≡_, sym}
 use borrow.Author.Needs.{needs}
 use borrow.Author.Tests.{not-false, not-true}
-use Rattle.sound.specs.Steps.{recordFits}
+use Rattle.sound.specs.OneRecord.{recordFits}
 use Rattle.sound.proofs.Stepping.{fits-not, weighs-none, weighs-some}
 use Rattle.sound.proofs.record.next.Statement.{statement}
 use Rattle.sound.proofs.record.next.Tie as tie

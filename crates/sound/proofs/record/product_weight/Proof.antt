@@ -9,15 +9,21 @@ use borrow.Author.Tests.{eqb-true, ne-eqb, not-false, not-true}
 use lib.Dec.{eqb}
 use Rattle.paper.specs.Sound.{apart, mostRows}
 use Rattle.laws.proofs.Lists.{both-true}
-use Rattle.sound.specs.Steps.{flagIn, rowsIn}
+use Rattle.sound.specs.OneRecord.{ifFew}
+use Rattle.sound.specs.Weights.{flagIn, rowsIn}
 use Rattle.sound.proofs.ByKind.{few-if}
 use Rattle.sound.proofs.record.product_weight.Statement.{statement}
 use Rattle.sound.proofs.record.product_weight.Tie as tie
 
+-- the test is one of the flags in the weights
+adds-says : (c : tie.After-adds) → let a = c .before .before .before .args in
+    c .adds .result ≡ apart (flagIn (a .left)) (flagIn (a .right)) && eqb (flagIn (a .left) + flagIn (a .right)) (a .flag)
+adds-says c = rw (c .before .before .flag-in .ensures, c .before .flag-in2 .ensures) at (c .adds .ensures)
+
 -- what is known once the rows are made
 module _ (c : tie.After-few-product) where
   abbrev start : tie.Start
-  start = c .before .before .before
+  start = c .before .before .before .before .before .before .before
 
   abbrev left-flag : ℕ
   left-flag = flagIn (start .args .left)
@@ -26,43 +32,60 @@ module _ (c : tie.After-few-product) where
   right-flag = flagIn (start .args .right)
 
   flags : apart left-flag right-flag && eqb (left-flag + right-flag) (start .args .flag) ≡ true
-  flags = sym (c .before .before .adds .ensures) ∙ not-false _ (c .before .if1 .left)
+  flags = sym (adds-says (c .before .before .before .before)) ∙ not-false _ (c .before .before .before .if1 .left)
 
   sum : left-flag + right-flag ≡ start .args .flag
   sum = eqb-true _ _ (both-true (apart left-flag right-flag) _ flags .1)
 
+  rows-made : c .few-product .result ≡ ifFew (rowsIn (start .args .left) * rowsIn (start .args .right))
+  rows-made = rw (c .before .before .rows-in .ensures, c .before .rows-in2 .ensures) at (c .few-product .ensures)
+
   few : c .few-product .result ≤ mostRows
-  few = rw (c .few-product .ensures) (few-if (rowsIn (start .args .left) * rowsIn (start .args .right)))
+  few = rw rows-made (few-if (rowsIn (start .args .left) * rowsIn (start .args .right)))
+
+flag-in-requires : tie.Need-flag-in-requires
+flag-in-requires c κs = search needs
+
+flag-in-requires-2 : tie.Need-flag-in-requires-2
+flag-in-requires-2 c κs = search needs
 
 adds-requires : tie.Need-adds-requires
 adds-requires c κs = search needs
 
 returns : tie.Need-returns
-returns c = simp (sym (c .before .adds .ensures) ∙ not-true _ (c .if1 .taken))
+returns c = simp (sym (adds-says (c .before)) ∙ not-true _ (c .if1 .taken))
+
+rows-in-requires : tie.Need-rows-in-requires
+rows-in-requires c κs = search needs
+
+rows-in-requires-2 : tie.Need-rows-in-requires-2
+rows-in-requires-2 c κs = search needs
 
 few-product-requires : tie.Need-few-product-requires
 few-product-requires c κs = search needs
 
-mul-result : tie.Need-mul-result
-mul-result c = omega (arith, few (c .before))
-
-add-result : tie.Need-add-result
-add-result c = omega (arith, few (c .before), sum (c .before))
+weight-of-requires : tie.Need-weight-of-requires
+weight-of-requires c κs = (few (c .before), omega (arith, sum (c .before)))
 
 returns-2 : tie.Need-returns-2
-returns-2 c = simp (flags (c .before), sym (c .before .few-product .ensures), c .if2 .taken)
+returns-2 c = simp (flags (c .before), sym (rows-made (c .before)), c .if2 .taken)
 
 returns-3 : tie.Need-returns-3
-returns-3 c = simp (flags (c .before), sym (c .before .few-product .ensures), ne-eqb _ _ (c .if2 .left))
+returns-3 c =
+    let made = c .before .before in
+    c .weight-of .ensures ∙ simp (flags made, sym (rows-made made), ne-eqb _ _ (c .before .if2 .left))
 
 pub product-weight-spec : {M : Type 1} → statement M
 product-weight-spec =
     tie.close
     (tie.spec
+    flag-in-requires
+    flag-in-requires-2
     adds-requires
     returns
+    rows-in-requires
+    rows-in-requires-2
     few-product-requires
-    mul-result
-    add-result
+    weight-of-requires
     returns-2
     returns-3)

@@ -6,7 +6,7 @@ use native.Mathlib.Omega.{arith}
 use borrow.Author.Needs.{needs}
 use borrow.Author.Tests.{le-ltb, lt-ltb}
 use lib.Pow.{shl-exact}
-use Rattle.sound.specs.Steps.{recordFits}
+use Rattle.sound.specs.OneRecord.{recordFits}
 use Rattle.sound.proofs.record.record_fits.Statement.{statement}
 use Rattle.sound.proofs.record.record_fits.Tie as tie
 

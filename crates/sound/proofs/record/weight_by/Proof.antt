@@ -2,7 +2,7 @@
 use mathlib.Core.Path.{_∙_, ap}
 use native.Mathlib.Omega.{arith}
 use borrow.Author.Needs.{needs}
-use Rattle.sound.specs.Steps.{weightFor}
+use Rattle.sound.specs.OneRecord.{weightFor}
 use Rattle.sound.proofs.ByKind.{by-none, by-product, by-single, by-union, left-later, right-later}
 use Rattle.sound.proofs.record.weight_by.Statement.{statement}
 use Rattle.sound.proofs.record.weight_by.Tie as tie

@@ -1,0 +1,55 @@
+// The end of a fix: what the set of the head has become, the answer, and the cleared work.
+ghost use mathlib.Core.Path.{_≡_};
+ghost use Rattle.fix.specs.Answer.{ImageIn, MayFinish, answerAfter, Finishes};
+ghost use Rattle.fix.specs.Sets.{setAfter};
+use crate::state::State;
+use paper::Fixed;
+use paper::Head;
+use paper::Set;
+use places::without_place;
+use table::set_of;
+
+// What the set of the head becomes: the image of its root. Empty and unit stay what they are.
+fn new_set(set: Set, work: &[u64]) -> Set
+    requires { ⌜ ImageIn (now work) set ⌝ }
+    ensures { λ r. ⌜ r ≡ setAfter (now (work .entry)) set ⌝ }
+{
+    match set {
+        Set::Empty => Set::Empty,
+        Set::Unit => Set::Unit,
+        // The number of a set is at most 60,001, so it fits.
+        Set::Record(i) => set_of(work[i as usize] as u16),
+    }
+}
+
+// The new set, or the refusal. Nodes and arity stay; the place leaves the open places, and the others
+// keep their numbers.
+fn answer(t: State, head: Head, work: &[u64]) -> Fixed
+    requires { ⌜ MayFinish t head (now work) ⌝ }
+    ensures { λ r. ⌜ r ≡ answerAfter t head (now (work .entry)) ⌝ }
+{
+    if t.refused {
+        let why = t.refusal;
+        return Fixed::Refused(why);
+    }
+    let old = head.set;
+    let set = new_set(old, work);
+    let places = without_place(head.open_places, (t.place - 1) as usize);
+    Fixed::Set(Head {
+        nodes: head.nodes,
+        arity: head.arity,
+        open_places: places,
+        used: t.made as u16,
+        set: set,
+    })
+}
+
+// The answer; and the work is cleared, after the root's image has been read from it.
+pub(crate) fn finish(t: State, head: Head, work: &mut [u64]) -> Fixed
+    requires { ⌜ MayFinish t head (now work) ⌝ }
+    ensures { λ r. ⌜ Finishes t head (now (work .entry)) r (now (work .exit)) ⌝ }
+{
+    let fixed = answer(t, head, &*work);
+    sound::clear(&mut *work, t.used);
+    fixed
+}
