@@ -1,4 +1,4 @@
--- The struct `State`, as the laws of `table` take a state: its field `going`, and where the batch goes and how many records it has.
+-- The struct `State`, as the laws of `walks` take a state: its field `going`, and where the batch goes and how many records it has.
 use mathlib.Core.Path.{refl}
 use Rattle.walks.proofs.States.{Shape, Field}
 use Rattle.building.proofs.state.State as S

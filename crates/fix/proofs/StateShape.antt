@@ -1,4 +1,4 @@
--- The struct `State`, as the laws of `table` take a state: its field `going`, which record comes next, and where the batch goes and how
+-- The struct `State`, as the laws of `walks` take a state: its field `going`, which record comes next, and where the batch goes and how
 -- many records it has.
 use mathlib.Core.Path.{refl}
 use Rattle.walks.proofs.States.{Shape, Field}

@@ -1,4 +1,4 @@
--- The struct `State`, as the law of `table` takes a state: its field `going`, and the record that is read next.
+-- The struct `State`, as the law of `walks` takes a state: its field `going`, and the record that is read next.
 use mathlib.Core.Path.{refl}
 use Rattle.walks.proofs.States.{Field, Shape}
 use Rattle.row.proofs.state.State as S

@@ -1,4 +1,4 @@
--- The struct `State`, as the law of a loop that asks takes it (`table`): its field `going`, and which entry is read.
+-- The struct `State`, as the law of a loop that asks takes it (`walks`): its field `going`, and which entry is read.
 use mathlib.Core.Path.{refl}
 use Rattle.walks.proofs.States.{Field, Shape}
 use Rattle.sound.proofs.state.State as S

@@ -1,4 +1,4 @@
--- `fix::images` meets its contract: an instance of the law of a loop that asks (`table`). What stands here is of plain values.
+-- `fix::images` meets its contract: an instance of the law of a loop that asks (`walks`). What stands here is of plain values.
 -- Assumes nothing.
 use mathlib.Core.Bool.{Bool, cond, false, true, true≢false}
 use mathlib.Core.List.{List}

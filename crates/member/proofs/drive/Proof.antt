@@ -1,4 +1,4 @@
--- `member::drive` meets its contract: an instance of the law of the loop that asks (`table`). What stands here is of plain values.
+-- `member::drive` meets its contract: an instance of the law of the loop that asks (`walks`). What stands here is of plain values.
 -- Assumes nothing.
 use mathlib.Core.Bool.{Bool, true, false, true≢false}
 use mathlib.Core.List.{List}

@@ -1,4 +1,4 @@
--- `project::drive` meets its contract: an instance of the law of a loop that asks (`table`). What stands here is of plain values.
+-- `project::drive` meets its contract: an instance of the law of a loop that asks (`walks`). What stands here is of plain values.
 -- Assumes nothing.
 use mathlib.Core.Bool.{cond, false, true}
 use mathlib.Core.List.{List}

@@ -1,4 +1,4 @@
--- `project` meets its contract: an instance of the law of a question that writes an output (`table`). What is shown of plain values stands in
+-- `project` meets its contract: an instance of the law of a question that writes an output (`walks`). What is shown of plain values stands in
 -- Facing.
 -- Assumes nothing.
 use mir.Syntax.{w16, w8, tyInt}

@@ -1,4 +1,4 @@
--- `row::row` meets its contract: an instance of the law of a question that writes an output (`table`). What stands here is of plain values.
+-- `row::row` meets its contract: an instance of the law of a question that writes an output (`walks`). What stands here is of plain values.
 -- Assumes nothing.
 use mir.Syntax.{w16, w64, tyInt}
 use contract.Running.{givenOf, tables, tablesOf}
