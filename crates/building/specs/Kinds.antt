@@ -1,5 +1,5 @@
 -- The kinds of the stream's records that the building asks for, as in the paper's table.
-use Prim.Native.Nat.{ℕ, _+_}
+use Prim.Native.Nat.{ℕ}
 
 -- a leaf of the tree; each other record of the tree is a branch
 abbrev pub leafKind : ℕ
