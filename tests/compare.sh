@@ -24,4 +24,4 @@ need_archive
 c_program driver tests/driver/driver.c
 need_program
 # a listing that runs on is ended, and has failed
-exec "$out/compare" "$@" "${runner[@]}" "$out/driver" -- timeout 60 "${program[@]}"
+exec "$out/compare" "$@" "${runner[@]}" "$out/driver" -- timeout "$patience" "${program[@]}"

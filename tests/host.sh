@@ -45,6 +45,8 @@ end_checks() {
     exit
 }
 
+# `patience` is after how many seconds a program is taken to run on. A listing of many rows takes far longer under an emulator: beside
+# other work one was seen to take over a minute.
 case $(uname -m) in
 aarch64 | arm64)
     compiler=x86_64-linux-gnu-gcc fortran=x86_64-linux-gnu-gfortran
@@ -53,11 +55,13 @@ aarch64 | arm64)
     # nothing is linked statically: the libm.a that these compilers bring in Debian 12 names files of an x86-64 host
     runner=("$tools/bin/qemu-x86_64" -L /usr/x86_64-linux-gnu)
     program_runner=("$tools/bin/qemu-x86_64" "$tools/lib/ld-linux-x86-64.so.2" --library-path "$tools/lib")
+    patience=600
     ;;
 *)
     compiler=gcc fortran=gfortran
     compiler_packages=(gcc libc6-dev) fortran_packages=(gfortran libc6-dev)
     runner=() program_runner=()
+    patience=60
     ;;
 esac
 

@@ -17,7 +17,7 @@ lines() {
 }
 
 # bounded COMMAND ..: ended where it runs on, and a closed pipe ends it, also where whatever runs this script has that signal ignored
-bounded() { timeout 20 env --default-signal=PIPE "$@"; }
+bounded() { timeout "$patience" env --default-signal=PIPE "$@"; }
 
 # ---- what is read and not proved
 
