@@ -9,7 +9,8 @@ use paper::Set;
 use places::without_place;
 use table::set_of;
 
-// What the set of the head becomes: the image of its root. Empty and unit stay what they are.
+// What the set of the head becomes: the image of its root. Empty stays what it is, and so would unit,
+// which has no open place and has been refused 7.
 fn new_set(set: Set, work: &[u64]) -> Set
     requires { ⌜ ImageIn (now work) set ⌝ }
     ensures { λ r. ⌜ r ≡ setAfter (now (work .entry)) set ⌝ }

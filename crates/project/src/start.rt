@@ -26,8 +26,8 @@ fn refused(why: Refusal) -> State
     }
 }
 
-// The pass at the root, if the set has one: its record is marked. Empty has no row, and no node stands
-// in the row of unit: no byte is 1 then.
+// The pass at the root, if the set has one: its record is marked. Empty has no row, so no byte is 1
+// then; unit has no open place, and has been refused 7.
 fn at_root(head: Head, work: &mut [u64], place: u16) -> State
     requires { ⌜ 1 ≤ place ⌝ }
     ensures { λ s. ⌜ (s ≡ rootState head place (head .set)) × (now (work .exit) ≡ rootMarked (head .set) (now (work .entry))) ⌝ }
