@@ -28,7 +28,7 @@ pub record HeadFits (t : State) : Type 0 where
   pub few-flags : 2 ^ t .arity ≤ mostFlags
   pub some-flag : 1 ≤ 2 ^ t .arity
   pub used : t .from + t .count ≤ mostRecords
-  pub set : t .set ≤ 60001
+  pub set : t .set ≤ mostRecords + 1
 
 module _ (input : List ℕ) (t : State) (all : List Record) (s : Stopped input t all) where
   tree : Passes (treePart (treeRecords (recordsOf input)))

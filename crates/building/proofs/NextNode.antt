@@ -1,4 +1,4 @@
--- The start of a node: its frame is cleared and its first rule is looked for. Then the step from a node to the next.
+-- The start of a node: its frame is cleared and its first rule is looked for. Then the way from a node to the next.
 use mathlib.Core.Bool.{true≢false}
 use mathlib.Core.List.{List, [], _++_, _∷_, append-assoc}
 use mathlib.Core.Path.{_∙_, _≡_, ap, refl, subst, subst₂, sym}

@@ -1,4 +1,4 @@
--- The turns with one batch: where the building stands after some of them, that one more goes on from there, and that the step is done
+-- The turns with one batch: where the building stands after some of them, that one more goes on from there, and that the batch is filled
 -- where the building has stopped or no room is left. t is where the batch was empty.
 use mathlib.Core.Bool.{false, true, true≢false}
 use mathlib.Core.List.{List, append-nil}

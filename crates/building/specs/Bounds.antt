@@ -1,6 +1,7 @@
 -- How large the numbers of the building get, and why. First what the paper limits; then the numbers that a field has room for; then
 -- records: of a split, of a rule, of a batch, and of the table and the batch together.
 use Prim.Native.Nat.{ℕ, _+_, _*_, _^_}
+pub use Rattle.table.specs.Batch.{recordNumbers}
 
 -- ---- the paper's limits
 -- places of a row, states of a query, nodes of a tree, records of a set
@@ -34,10 +35,6 @@ abbrev pub slotSets : ℕ
 slotSets = 2 ^ 16
 
 -- ---- records
--- a record is five numbers of the batch: kind, node, left, right, flag
-abbrev pub recordNumbers : ℕ
-recordNumbers = 5
-
 -- a split makes a single and two products, and then a union, each at most one record
 abbrev pub tripleRecords : ℕ
 tripleRecords = 3

@@ -144,10 +144,10 @@ abbrev pub IsFilling : List ℕ → State → List ℕ → List ℕ → Type 0
 IsFilling input t work batch = (base : List Record) × Filling input t work batch base
 
 -- a turn from there, whatever records are in the table
-abbrev pub Fills : List ℕ → State → List ℕ → List ℕ → State → List ℕ → List ℕ → Type 0
-Fills input t work batch r work′ batch′ = (base : List Record) → Filling input t work batch base → Stepped input t work base r work′ batch′
+abbrev pub Turned : List ℕ → State → List ℕ → List ℕ → State → List ℕ → List ℕ → Type 0
+Turned input t work batch r work′ batch′ = (base : List Record) → Filling input t work batch base → Stepped input t work base r work′ batch′
 
 -- turns with a new batch, where the table has all records that are made
-abbrev pub Turned : List ℕ → State → List ℕ → State → List ℕ → List ℕ → Type 0
-Turned input t work r work′ batch′ =
+abbrev pub Fills : List ℕ → State → List ℕ → State → List ℕ → List ℕ → Type 0
+Fills input t work r work′ batch′ =
     (made : List Record) → Standing input t work made → t .from + t .count ≤ t .limit → Stepped input t work made r work′ batch′

@@ -9,8 +9,7 @@ use paper::Head;
 use paper::Refusal;
 use table::set_of;
 
-// The answer of a build that has stopped, or its refusal with 6. The work is cleared either way, as far as
-// it was asked for: what is behind that was never touched.
+// The work is cleared either way, as far as it was asked for: what is behind that was never touched.
 pub(crate) fn finish(t: State, work: &mut [u64]) -> Built
     requires { ⌜ Ended t (now work) ⌝ }
     ensures { λ r. ⌜ Finishes t (now (work .entry)) r (now (work .exit)) ⌝ }
@@ -20,13 +19,13 @@ pub(crate) fn finish(t: State, work: &mut [u64]) -> Built
         return Built::Refused(Refusal::ShortTable);
     }
     // No place is fixed yet: all are open.
-    let places = flags(t.arity) - 1;
+    let open_places = flags(t.arity) - 1;
     // At most 60,000 records are used: their number and that of the set fit 16 bits.
     let set = set_of(t.set as u16);
     Built::Set(Head {
         nodes: t.nodes as u16,
         arity: t.arity as u16,
-        open_places: places as u16,
+        open_places: open_places as u16,
         used: (t.from + t.count) as u16,
         set: set,
     })

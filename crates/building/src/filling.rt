@@ -3,7 +3,7 @@
 ghost use Prim.Native.Nat.{_≤_};
 ghost use lib.ListN.{length};
 ghost use Rattle.building.specs.Bounds.{batchNumbers, ruleRecords};
-ghost use Rattle.building.specs.Standing.{IsStanding, IsFilling, Turned, Fills};
+ghost use Rattle.building.specs.Standing.{IsStanding, IsFilling, Fills, Turned};
 use crate::batch::RULE_RECORDS;
 use crate::node::branch_rules;
 use crate::node::leaf_rules;
@@ -17,7 +17,7 @@ use paper::kinds::LEAF;
 fn turn(t: State, input: &[u8], work: &mut [u64], batch: &mut [u16]) -> State
     requires { ⌜ IsFilling (now input) t (now work) (now batch) ⌝ }
     requires { ⌜ (batchNumbers ≤ length (now batch)) × (t .count ≤ ruleRecords) ⌝ }
-    ensures { λ r. ⌜ Fills (now (input .entry)) t (now (work .entry)) (now (batch .entry)) r (now (work .exit)) (now (batch .exit)) ⌝ }
+    ensures { λ r. ⌜ Turned (now (input .entry)) t (now (work .entry)) (now (batch .entry)) r (now (work .exit)) (now (batch .exit)) ⌝ }
 {
     let at = t.at;
     if t.rule < input.len() {
@@ -35,9 +35,9 @@ fn turn(t: State, input: &[u8], work: &mut [u64], batch: &mut [u16]) -> State
 // Turns with an empty batch, whose records are in the table, as long as it has room for the records of one
 // more rule. Many nodes share a batch: a batch a rule was tried, and a quarter of what it did was to keep
 // the state between two rules (docs/DECISIONS.md, 42).
-pub(crate) fn step(t: State, input: &[u8], work: &mut [u64], batch: &mut [u16]) -> State
+pub(crate) fn fill(t: State, input: &[u8], work: &mut [u64], batch: &mut [u16]) -> State
     requires { ⌜ IsStanding (now input) t (now work) × (batchNumbers ≤ length (now batch)) ⌝ }
-    ensures { λ r. ⌜ Turned (now (input .entry)) t (now (work .entry)) r (now (work .exit)) (now (batch .exit)) ⌝ }
+    ensures { λ r. ⌜ Fills (now (input .entry)) t (now (work .entry)) r (now (work .exit)) (now (batch .exit)) ⌝ }
 {
     let mut s = t;
     s.from = t.from + t.count;

@@ -2,7 +2,7 @@
 // for the present node. A frame has a shelf for each state, and a shelf a slot for each flag.
 // Frames are of one size and stand one behind the other from the start of the work, and so do the shelves
 // of a frame: no two overlap, and what is written in one leaves the others.
-// First where they stand, then the two ways to write a whole frame.
+// First where they stand, then the two ways to write many numbers at once.
 ghost use mathlib.Core.Path.{_≡_};
 ghost use Prim.Native.Nat.{_+_, _*_, _^_, _≤_, _<_};
 ghost use lib.ListN.{length, drop, replicate};
@@ -45,8 +45,7 @@ pub(crate) fn shelf_at(arity: usize, states: usize, frame: usize, state: usize) 
     frame_at(arity, states, frame) + state * flags(arity)
 }
 
-// So many numbers, set to 0: no slot has a set then, and none is marked. The loop ends when i has come
-// to n.
+// So many numbers, set to 0: no slot has a set then, and none is marked.
 pub(crate) fn clear(work: &mut [u64], from: usize, n: usize)
     requires { ⌜ from + n ≤ length (now work) ⌝ }
     ensures { λ r. ⌜ now (work .exit) ≡ paste (now (work .entry)) from (replicate n 0) n ⌝ }

@@ -5,12 +5,12 @@
 // functions do, and they do little else: the records are made in a batch of plain numbers (batch.rt), by
 // functions that the checker covers, and `table::store` copies them. The other files, in the order in
 // which a build comes to them: start.rt, filling.rt, node.rt, rule.rt, roots.rt, answer.rt. What they
-// share: state.rt, frame.rt and slot.rt for the lent work, kind.rt.
+// share: state.rt; frame.rt and slot.rt for the lent work.
 ghost use Rattle.building.specs.Driving.{Ready, Driven};
 ghost use Rattle.building.specs.Face.{Builds};
 use crate::answer::finish;
 use crate::batch::BATCH_NUMBERS;
-use crate::filling::step;
+use crate::filling::fill;
 use crate::start::Begun;
 use crate::start::begin;
 use crate::state::State;
@@ -51,8 +51,8 @@ pub fn build(input: &[u8], work: &mut [u64], table: &mut [Record]) -> Built
     }
 }
 
-// All steps: the records that each makes are stored in the table before the next. The loop ends since
-// a step does at least one turn, and each turn passes a rule or a node, or is the last: `turnsLeft`
+// All fillings: the records of each are stored in the table before the next. The loop ends since
+// each filling does at least one turn, and each turn passes a rule or a node, or is the last: `turnsLeft`
 // (specs/Standing.antt) falls.
 fn drive(table: &mut [Record], input: &[u8], s: State, work: &mut [u64], batch: &mut [u16]) -> State
     requires { ⌜ Ready (now input) (now table) s (now work) (now batch) ⌝ }
@@ -60,7 +60,7 @@ fn drive(table: &mut [Record], input: &[u8], s: State, work: &mut [u64], batch: 
 {
     let mut t = s;
     while t.going {
-        t = step(t, input, &mut *work, &mut *batch);
+        t = fill(t, input, &mut *work, &mut *batch);
         // They fit: `count` is 0 past the limit, and the limit is at most the table's length.
         let from = t.from;
         let count = t.count;

@@ -1,4 +1,4 @@
-// The turns of the building at one node: the rules of a leaf, those of a branch, and the step to the next
+// The turns of the building at one node: the rules of a leaf, those of a branch, and the way to the next
 // node. A rule is read where it stands in the stream, a byte each: kind, label, flag and state of a leaf
 // rule, and of a branch rule kind, label, flag, left state, right state and state.
 ghost use mathlib.Core.Path.{_≡_};
@@ -9,7 +9,7 @@ ghost use Rattle.building.specs.Bounds.{batchNumbers, ruleRecords};
 ghost use Rattle.building.specs.Branches.{BranchReady, branchOf};
 ghost use Rattle.building.specs.Coming.{Comes, HasCome, Joins};
 ghost use Rattle.building.specs.Kinds.{leafKind};
-ghost use Rattle.building.specs.Standing.{IsStanding, IsFilling, Fills};
+ghost use Rattle.building.specs.Standing.{IsStanding, IsFilling, Turned};
 use crate::batch::RULE_RECORDS;
 use crate::frame::clear;
 use crate::frame::copy_down;
@@ -37,14 +37,14 @@ pub(crate) fn leaf_rules(t: State, input: &[u8], work: &mut [u64], batch: &mut [
     requires { ⌜ IsFilling (now input) t (now work) (now batch) ⌝ }
     requires { ⌜ (t .rule < length (now input)) × (getD (now input) (t .at) 0 ≡ leafKind) ⌝ }
     requires { ⌜ (batchNumbers ≤ length (now batch)) × (t .count ≤ ruleRecords) ⌝ }
-    ensures { λ r. ⌜ Fills (now (input .entry)) t (now (work .entry)) (now (batch .entry)) r (now (work .exit)) (now (batch .exit)) ⌝ }
+    ensures { λ r. ⌜ Turned (now (input .entry)) t (now (work .entry)) (now (batch .entry)) r (now (work .exit)) (now (batch .exit)) ⌝ }
 {
     let at = t.at;
     let label = input[at + 1];
     let mut count = t.count;
     let mut rule = t.rule;
     while rule < input.len() && count <= RULE_RECORDS {
-        // The slots of this rule are in the node's own frame, the one on top.
+        // The slot of this rule is in the node's own frame, the one on top.
         let flag = input[rule + 2] as usize;
         let to = shelf_at(t.arity, t.states, t.top, input[rule + 3] as usize);
         count = leaf_rule(
@@ -87,7 +87,7 @@ pub(crate) fn branch_rules(t: State, input: &[u8], work: &mut [u64], batch: &mut
     requires { ⌜ IsFilling (now input) t (now work) (now batch) ⌝ }
     requires { ⌜ (t .rule < length (now input)) × (getD (now input) (t .at) 0 ≡ leafKind → ⊥) ⌝ }
     requires { ⌜ (batchNumbers ≤ length (now batch)) × (t .count ≤ ruleRecords) ⌝ }
-    ensures { λ r. ⌜ Fills (now (input .entry)) t (now (work .entry)) (now (batch .entry)) r (now (work .exit)) (now (batch .exit)) ⌝ }
+    ensures { λ r. ⌜ Turned (now (input .entry)) t (now (work .entry)) (now (batch .entry)) r (now (work .exit)) (now (batch .exit)) ⌝ }
 {
     let at = t.at;
     let label = input[at + 1];
@@ -152,7 +152,7 @@ pub(crate) fn start_node(
 pub(crate) fn next_node(t: State, input: &[u8], work: &mut [u64]) -> State
     requires { ⌜ IsStanding (now input) t (now work) ⌝ }
     requires { ⌜ (length (now input) ≤ t .rule) × (t .node + 1 < t .nodes) × (t .count ≤ ruleRecords) ⌝ }
-    ensures { λ r. ⌜ ((batch : List ℕ) → Fills (now (input .entry)) t (now (work .entry)) batch r (now (work .exit)) batch) ⌝ }
+    ensures { λ r. ⌜ ((batch : List ℕ) → Turned (now (input .entry)) t (now (work .entry)) batch r (now (work .exit)) batch) ⌝ }
 {
     let at = t.at;
     let next = at + 1 + body_length(input[at]);

@@ -4,7 +4,7 @@ ghost use Prim.Native.Nat.{_+_, _≤_, _<_};
 ghost use lib.ListN.{length};
 ghost use Rattle.building.specs.Bounds.{batchNumbers, ruleRecords};
 ghost use Rattle.building.specs.Roots.{UnitedTo, UnitesNext};
-ghost use Rattle.building.specs.Standing.{IsStanding, IsFilling, Fills};
+ghost use Rattle.building.specs.Standing.{IsStanding, IsFilling, Turned};
 use crate::batch::Made;
 use crate::batch::union;
 use crate::frame::flags;
@@ -16,7 +16,7 @@ use stream::is_accepting;
 use table::EMPTY;
 
 // One more state: if it is accepting, its slot of all places is united on the right of those before. The
-// first is united with empty, which makes no record: so they are at most one less than those states.
+// first is united with empty, which makes no record: so the records are at most one less than the accepting states.
 fn unite_root(
     t: State,
     input: &[u8],
@@ -71,7 +71,7 @@ pub(crate) fn roots(t: State, input: &[u8], work: &[u64], batch: &mut [u16]) -> 
     requires { ⌜ IsFilling (now input) t (now work) (now batch) ⌝ }
     requires { ⌜ (length (now input) ≤ t .rule) × (t .nodes ≤ t .node + 1) ⌝ }
     requires { ⌜ (batchNumbers ≤ length (now batch)) × (t .count ≤ ruleRecords) ⌝ }
-    ensures { λ r. ⌜ Fills (now (input .entry)) t (now (work .entry)) (now (batch .entry)) r (now (work .entry)) (now (batch .exit)) ⌝ }
+    ensures { λ r. ⌜ Turned (now (input .entry)) t (now (work .entry)) (now (batch .entry)) r (now (work .entry)) (now (batch .exit)) ⌝ }
 {
     let made = unite_roots(t, input, work, &mut *batch);
     let mut last = count_records(t, made.count, t.rule);

@@ -36,8 +36,8 @@ fn record_limit(entries: usize) -> usize
     }
 }
 
-// The first node of a tree and a query that are read, if the work is as long as they ask. The table has so
-// many entries. The work is not touched before that is known, since refusal 5 leaves it as it was.
+// The first node of a tree and a query that are read, if the work is as long as they ask. `entries` is how
+// many the table has. The work is not touched before that is known, since refusal 5 leaves it as it was.
 fn start(
     input: &[u8],
     work: &mut [u64],
@@ -77,7 +77,7 @@ fn start(
 }
 
 // The tree, then the query behind it: the first that is refused ends the build. What is kept of them is a
-// few counts; the rules are read again, where they stand, at each node.
+// few numbers; the rules are read again, where they stand, at each node.
 pub(crate) fn begin(input: &[u8], work: &mut [u64], entries: usize) -> Begun
     ensures { λ r. ⌜ Begins (now (input .entry)) (now (work .entry)) entries r (now (work .exit)) ⌝ }
 {

@@ -4,11 +4,12 @@ ghost use mathlib.Core.Path.{_≡_};
 ghost use Prim.Native.Nat.{_≤_};
 ghost use Rattle.building.specs.States.{counted};
 
-// `from` is where the batch goes in the table, `count` how many records it has. `at` is where the record
-// of the present node stands, `top` how many frames are below its own, `rule` where its next matching
-// rule stands: the end of the input where none is left. `set` is the set that was made, once the building
-// has stopped, `over` that it stopped at the limit. The others stay: the nodes, where the rules begin, the
-// query's arity and states, the records that fit, the work asked for.
+// `from` is where the batch goes in the table, `count` how many records it has. `node` is the
+// number of the present node, `at` where its record stands, `top` how many frames are below its own,
+// `rule` where its next matching rule stands: the end of the input where none is left. `going` is that
+// the building has not stopped, `set` the set that was made, once it has, `over` that it stopped at the
+// limit. The others stay: the nodes, where the rules begin, the query's arity and states, the records that
+// fit, the work asked for.
 pub(crate) struct State {
     pub(crate) from: usize,
     pub(crate) count: usize,

@@ -6,7 +6,7 @@ use native.Mathlib.Omega.{arith}
 use lib.ListN.{drop, length, length-append, length-drop}
 use lib.Seq.{drop-append-add, drop-drop, take-append-seam}
 use Rattle.paper.specs.Refusals.{over}
-use Rattle.table.specs.Batch.{recordAt, recordsIn, stored}
+use Rattle.table.specs.Batch.{recordNumbers, recordAt, recordsIn, stored}
 use Rattle.table.proofs.Batches.{length-records, stored-there}
 use Rattle.fix.specs.Sets.{Image, Record, ifAny, newIn}
 
@@ -20,7 +20,7 @@ batch-is x batch few e = go (x .count) few
     go (suc zero) l = ap {B = List Record} (λ r. r ∷ []) e
     go (suc (suc n)) l = absurd (omega arith)
 
-module _ (made target : List Record) (batch : List ℕ) (count : ℕ) (entries : length made + count ≤ length target) (room : 5 * count ≤ length batch) where
+module _ (made target : List Record) (batch : List ℕ) (count : ℕ) (entries : length made + count ≤ length target) (room : recordNumbers * count ≤ length batch) where
   pub stored-behind : stored (over made target) (length made) batch count ≡ over (made ++ recordsIn count batch) target
   stored-behind =
       stored-there (over made target) (length made) batch count (omega (arith, long)) room

@@ -9,7 +9,7 @@ use borrow.Author.Tests.{eqb-false, ne-eqb}
 use lib.Dec.{eqb}
 use lib.ListN.{getD, length, set}
 use Rattle.paper.specs.Questions.{isUnit}
-use Rattle.table.specs.Batch.{recordAt}
+use Rattle.table.specs.Batch.{recordNumbers, recordAt}
 use Rattle.fix.specs.Sets.{Image, Makes, Record, imageWith, operandIn, setIn}
 use Rattle.fix.specs.States.{State, passed, stopped}
 use Rattle.fix.specs.Turns.{Imaged, Recorded, Turning, imageAt, twiceIn}
@@ -85,7 +85,7 @@ module _ (t : State) (r : Record) (work : List ℕ) (left right : ℕ) (left-is 
     }
 
 -- a record in five numbers
-pub put-record : (batch : List ℕ) (new : Record) → 5 ≤ length batch
+pub put-record : (batch : List ℕ) (new : Record) → recordNumbers ≤ length batch
     → recordAt (set (set (set (set (set batch 0 (new .kind)) 1 (new .node)) 2 (new .left)) 3 (new .right)) 4 (new .flag)) 0 ≡ new
 put-record [] new l = absurd (omega arith)
 put-record (a ∷ []) new l = absurd (omega arith)

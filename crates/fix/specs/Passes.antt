@@ -7,6 +7,7 @@ use lib.ListN.{length, getD, take, drop}
 use Rattle.paper.specs.Questions.{imagesOf}
 use Rattle.paper.specs.Refusals.{over}
 use Rattle.paper.specs.Sound.{entry}
+use Rattle.table.specs.Batch.{recordNumbers}
 use Rattle.fix.specs.Sets.{Record, Set, empty, unit, setNumber}
 use Rattle.fix.specs.States.{State, started}
 
@@ -59,7 +60,7 @@ pub record ImagesDone (source : List Record) (s : State) (work : List ℕ) (t : 
 
 -- ---- the second pass
 pub record MayRecord (source : List Record) (s : State) (work : List ℕ) (target : List Record) (batch : List ℕ) : Type 0 where
-  pub numbers : 5 ≤ length batch
+  pub numbers : recordNumbers ≤ length batch
   pub idle : s .refused ≡ true → s .going ≡ false
   pub fresh : s .refused ≡ false → (s ≡ started (s .used) (s .place) (s .node)) × Fitting source s work
   pub numbered : s .refused ≡ false → Numbered source s work

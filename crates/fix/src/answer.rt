@@ -35,11 +35,11 @@ fn answer(t: State, head: Head, work: &[u64]) -> Fixed
     }
     let old = head.set;
     let set = new_set(old, work);
-    let places = without_place(head.open_places, (t.place - 1) as usize);
+    let open_places = without_place(head.open_places, (t.place - 1) as usize);
     Fixed::Set(Head {
         nodes: head.nodes,
         arity: head.arity,
-        open_places: places,
+        open_places: open_places,
         used: t.made as u16,
         set: set,
     })

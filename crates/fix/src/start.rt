@@ -48,7 +48,7 @@ fn refuse(used: usize, why: Refusal) -> State
 }
 
 // What can be told before the images: 5 and 11 by what `weigh` said, then 7, 8 and 6, as the paper
-// orders them. A set that `weigh` refused has left the work as it is to be.
+// orders them. Where `weigh` refused, it has left the work as it is to be.
 pub(crate) fn begin(w: Weighed, head: Head, place: u16, node: u16, entries: usize) -> State
     ensures { λ r. ⌜ r ≡ begun w head place node entries ⌝ }
 {

@@ -3,7 +3,7 @@
 ghost use mathlib.Core.Path.{_≡_};
 ghost use Prim.Native.Nat.{_≤_, _<_};
 ghost use lib.ListN.{length};
-ghost use Rattle.table.specs.Batch.{recordAt};
+ghost use Rattle.table.specs.Batch.{recordNumbers, recordAt};
 ghost use Rattle.fix.specs.Sets.{operandIn};
 ghost use Rattle.fix.specs.Turns.{Turning, Imaged, Recorded};
 use crate::image::image_of;
@@ -48,7 +48,7 @@ pub(crate) fn image_turn(t: State, r: Record, work: &mut [u64]) -> State
 
 // One record as five numbers, in the order in which `table` reads them.
 fn put(batch: &mut [u16], new: Record)
-    requires { ⌜ 5 ≤ length (now batch) ⌝ }
+    requires { ⌜ recordNumbers ≤ length (now batch) ⌝ }
     ensures { λ r. ⌜ recordAt (now (batch .exit)) 0 ≡ new ⌝ }
 {
     batch[0] = new.kind;
@@ -62,7 +62,7 @@ fn put(batch: &mut [u16], new: Record)
 // where a record makes a new one, its image is the next of the new table. Any other image is a set that
 // is there already, and the record is skipped.
 pub(crate) fn record_turn(t: State, r: Record, work: &mut [u64], batch: &mut [u16]) -> State
-    requires { ⌜ Turning t r (now work) × (5 ≤ length (now batch)) ⌝ }
+    requires { ⌜ Turning t r (now work) × (recordNumbers ≤ length (now batch)) ⌝ }
     ensures { λ s. ⌜ Recorded t r (now (work .entry)) s (now (work .exit)) (now (batch .exit)) ⌝ }
 {
     let at = t.at;

@@ -1,5 +1,5 @@
--- Lists of tests against rows in an order, where one row may have several tests and each test counts only if those before it hold.
--- First the test that fails first, then that a list of tests judges as the rows do.
+-- Lists of tests against causes in an order, where one cause may have several tests and each test counts only if those before it hold.
+-- First the test that fails first, then that a list of tests judges as the causes do.
 use mathlib.Core.Path.{_≡_, refl, sym, ap, _∙_}
 use mathlib.Core.Logic.{_⊎_, inl, inr}
 use mathlib.Core.Bool.{Bool, true, false}
@@ -29,8 +29,8 @@ pub fails-after : (ts us : List Test) (n : ℕ) → Passes ts → FailsFirst us 
 fails-after [] us n p f = f
 fails-after (t ∷ ts) us n p f = inr (p .0, fails-after ts us n (p .1) f)
 
--- ---- tests judge as the rows do
--- every test passes and no row applies, or the first test that fails has the number of the first row that applies
+-- ---- tests judge as the causes do
+-- every test passes and no cause applies, or the first test that fails has the number of the first cause that applies
 pub data Judged (Applies : ℕ → Type 0) (ts : List Test) (ms : List ℕ) : Type 0 where
   fine : Passes ts → NoneOf ms Applies → Judged Applies ts ms
   faulty : (n : ℕ) → FailsFirst ts n → FirstOf ms Applies n → Judged Applies ts ms
@@ -39,12 +39,12 @@ module _ {Applies : ℕ → Type 0} where
   pub judged-none : Judged Applies [] []
   judged-none = fine tt tt
 
-  -- a row that does not apply is passed over
+  -- a cause that does not apply is passed over
   pub judged-skip : {m : ℕ} {ms : List ℕ} {ts : List Test} → (Applies m → ⊥) → Judged Applies ts ms → Judged Applies ts (m ∷ ms)
   judged-skip f (fine p w) = fine p (f, w)
   judged-skip f (faulty n p w) = faulty n p (inr (f, w))
 
-  -- a test of the first row: where it fails the row applies, and where it holds the others decide
+  -- a test of the first cause: where it fails the cause applies, and where it holds the others decide
   pub judged-test : {m : ℕ} {c : Bool} {ms : List ℕ} {ts : List Test} → (c ≡ false → Applies m) → (c ≡ true → Judged Applies ts (m ∷ ms))
       → Judged Applies ((m, c) ∷ ts) (m ∷ ms)
   judged-test {m} {c} {ms} {ts} f g = go c refl

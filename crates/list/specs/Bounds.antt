@@ -1,5 +1,10 @@
--- How many bytes the parts of the text take at most, and the buffer that they wait in. The parts come in the order in which a line is made.
+-- How long an input may be; how many bytes the parts of the text take at most, in the order in which a line is made; and the buffer that
+-- they wait in.
 use Prim.Native.Nat.{ℕ, _+_, _*_}
+
+-- the paper's limit for the program
+abbrev pub longestInput : ℕ
+longestInput = 16384
 
 -- a number below 2 to the power of 64 in decimal digits
 abbrev pub longestNumber : ℕ

@@ -4,7 +4,7 @@
 ghost use mathlib.Core.Path.{_≡_};
 ghost use Prim.Native.Nat.{_≤_};
 ghost use lib.ListN.{length};
-ghost use Rattle.list.specs.Bounds.{longestLine, largestText};
+ghost use Rattle.list.specs.Bounds.{longestInput, longestLine, largestText};
 ghost use Rattle.list.specs.Handing.{HandsOn};
 ghost use Rattle.list.specs.Listing.{headOf, Ready, Rows, Lists};
 use crate::handed::Handed;
@@ -21,6 +21,7 @@ use paper::Head;
 use paper::Record;
 use paper::Refusal;
 use paper::Set;
+use paper::limits::MOST_PLACES;
 
 mod handed;
 mod page;
@@ -63,7 +64,7 @@ fn rows(
     requires { ⌜ Ready head (now table) s (now work) (now text) (now input) ⌝ }
     ensures { λ r. ⌜ Rows head (now (table .entry)) s (now (text .entry)) r (now (text .exit)) ⌝ }
 {
-    let mut row: [u16; 4] = [0; 4];
+    let mut row: [u16; MOST_PLACES] = [0; MOST_PLACES];
     let mut t = s;
     while t.going {
         let number = t.number;
@@ -73,10 +74,10 @@ fn rows(
     t
 }
 
-// What is told of an input, up to what waits. A stream that asks for more than the table and the work have is refused 6 or 5. The
+// What is told of an input; its last part waits in the text. A stream that asks for more than the table and the work have is refused 6 or 5. The
 // table is lent blank, but any table would do, since `build` says what it leaves.
 fn list(input: &[u8], text: &mut [u8]) -> Page
-    requires { ⌜ (length (now input) ≤ 16384) × (longestLine ≤ length (now text)) × (length (now text) ≤ largestText) ⌝ }
+    requires { ⌜ (length (now input) ≤ longestInput) × (longestLine ≤ length (now text)) × (length (now text) ≤ largestText) ⌝ }
     ensures { λ r. ⌜ Lists (now (input .entry)) r (now (text .exit)) ⌝ }
 {
     let blank = Record {
@@ -122,8 +123,8 @@ fn tell(input: &[u8], text: &mut [u8]) -> Handed
 }
 
 // One byte more is read than the program takes, to see an input that is too long: `read_full` stops where the buffer is full or the
-// input ends. The text's buffer is large so that a write of the system, which
-// costs far more than a line, is made for hundreds of lines at once.
+// input ends. The text's buffer is large so that a write of the system, which costs far more than a line, is made for hundreds of
+// lines at once.
 fn main() {
     let mut input = [0u8; LONGEST_INPUT + 1];
     let mut text = io::large_buffer();

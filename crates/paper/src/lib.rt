@@ -69,7 +69,8 @@ pub enum Refusal {
 }
 
 impl Refusal {
-    // The paper's number. It stands here and nowhere else: C, its bindings and the program have it from this function.
+    // The paper's number. In Rattle it stands here only: the functions for C and the program ask this one. The header and the bindings
+    // list the numbers once more, for those who write in C, Fortran or Rust.
     pub fn number(self) -> u8
         ensures { λ n. ⌜ n ≡ numberOf self ⌝ }
     {

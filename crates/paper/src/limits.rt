@@ -1,4 +1,5 @@
-// The limits that document 01 states, each once. The definitions (specs/) have the numbers themselves, as the paper's text does.
+// The limits of trees, queries and sets that document 01 states. The definitions (specs/) mostly have the numbers themselves, as the
+// paper's text does.
 
 // Nodes of a tree.
 pub const MOST_NODES: usize = 4095;

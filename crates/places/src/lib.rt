@@ -10,7 +10,7 @@ use paper::Head;
 // The bits of a flag, which is a u16. The flags of a sound set fill at most four of them.
 const BITS: usize = 16;
 
-// How many places a flag has. The flags that are counted stand in weights, which are u64.
+// How many places a flag has. It takes a u64, since the flags of operands are read from weights.
 pub fn filled(flag: u64) -> u32
     ensures { λ n. ⌜ n ≡ ones flag ⌝ }
 {

@@ -31,7 +31,7 @@ use Rattle.sound.proofs.Answered.{refused-reply, refused-work, sound-clears, so
 use Rattle.project.specs.Face.{Projects}
 use Rattle.project.specs.Marks.{Finishable, Finishes}
 use Rattle.project.specs.Passing.{Driven, InWork, Ready, State, passed, turnsLeft}
-use Rattle.project.specs.Starting.{Begins, refusedState, rootMarked, rootState, started, startedWork}
+use Rattle.project.specs.Start.{Begins, refusedState, rootMarked, rootState, started, startedWork}
 use Rattle.project.proofs.Clearing.{cleared}
 use Rattle.project.proofs.Projecting.{last, last-cleared, last-kept, last-marks}
 

@@ -25,7 +25,7 @@ use Rattle.laws.proofs.Bits.{no-places}
 use Rattle.laws.proofs.Lists.{both-true, iff-eq, or-cases, or-left, or-right, which}
 use Rattle.project.specs.Marks.{Kept, marksIn}
 use Rattle.project.specs.Passing.{passed, turnsLeft}
-use Rattle.project.specs.Starting.{rootMarked, rootState}
+use Rattle.project.specs.Start.{rootMarked, rootState}
 use Rattle.project.proofs.Clearing.{cleared, cleared-behind, cleared-length, cleared-zero}
 use Rattle.project.proofs.Operands.{rows}
 use Rattle.sound.proofs.Overwriting.{zeros-agree}

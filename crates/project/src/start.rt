@@ -2,7 +2,7 @@
 // work has marks in the place of weights.
 ghost use mathlib.Core.Path.{_≡_};
 ghost use Prim.Native.Nat.{_≤_};
-ghost use Rattle.project.specs.Starting.{refusedState, rootState, rootMarked, started, startedWork, Begins};
+ghost use Rattle.project.specs.Start.{refusedState, rootState, rootMarked, started, startedWork, Begins};
 use crate::state::MARKED;
 use crate::state::State;
 use paper::Head;

@@ -5,8 +5,9 @@ use paper::Projected;
 // the same number, for node 0; but a record's turn comes once.
 pub(crate) const MARKED: u64 = 1;
 
-// `at` is the record that is looked at next, `index` the place's, from 0. The others stay: the records
-// used, the nodes, and the answer, which is a refusal only where no turn is taken.
+// `at` is the record that is looked at next, and `going` that there is one. The others stay: the index of
+// the place, from 0, the records used, the nodes, and the answer, which is a refusal only where no turn is
+// taken.
 pub(crate) struct State {
     pub(crate) at: usize,
     pub(crate) index: usize,

@@ -10,8 +10,8 @@ use paper::kinds::SINGLE;
 use paper::kinds::UNION;
 use paper::limits::MOST_PLACES;
 use places::has_place;
-use sound::weight::flag_in;
-use sound::weight::rows_in;
+use sound::flag_in;
+use sound::rows_in;
 
 // The descent goes on at row `number` of record `at`. The start stays: below a product the record has
 // only some of the row's places, and the others are sought from above it.

@@ -92,7 +92,7 @@ pub(crate) fn judge(t: State, head: Head, work: &mut [u64]) -> Weighed
             return Weighed::Sound;
         }
     }
-    // The weights of the records before the one at fault go again.
+    // 11 leaves the stated part zero, whatever stands there: weights, or what the caller lent.
     clear(&mut *work, used);
     Weighed::Refused(Refusal::NotSound)
 }

@@ -1,7 +1,7 @@
 // The test that a set is sound, and how many rows each of its records lists: one pass over the used
 // records, with which every question begins. Then the first question, how many rows there are.
 // First these two and the loop over the table, then what the questions need besides: the rows of a
-// set, and the cleared work. How a weight is read, in a module of its own, is for them too.
+// set, and the cleared work.
 ghost use mathlib.Core.Path.{_≡_};
 ghost use Prim.Native.Nat.{min};
 ghost use lib.ListN.{length, replicate};
@@ -14,7 +14,6 @@ use crate::head::begin;
 use crate::head::judge;
 use crate::record::next;
 use crate::state::State;
-use crate::weight::rows_in;
 use paper::Counted;
 use paper::Head;
 use paper::Record;
@@ -25,7 +24,11 @@ mod counted;
 mod head;
 mod record;
 mod state;
-pub mod weight;
+mod weight;
+
+// How a weight is read is for the questions too.
+pub use weight::flag_in;
+pub use weight::rows_in;
 
 // What `weigh` found. Where the set is sound, the work has the weights of its used records.
 pub enum Weighed {

@@ -17,8 +17,7 @@ pub fn rows_in(weight: u64) -> u64
     weight / FLAGS
 }
 
-// The flag of a record with this weight. It stays a u64: most callers count its ones, and `filled`
-// takes a u64.
+// The flag of a record with this weight. It stays a u64, of which `filled` counts the ones.
 pub fn flag_in(weight: u64) -> u64
     ensures { λ f. ⌜ f ≡ flagIn weight ⌝ }
 {

@@ -26,8 +26,8 @@ fn is_rule_for(input: &[u8], at: usize, kind: u8, label: u8) -> bool
 }
 
 // The first such rule at or behind a position, and the end of the input where there is none. The
-// rules are not sorted by symbol: a build takes those of a node in file order, which is the order
-// in which they are found here.
+// rules are read where they stand, and nothing is kept of them (docs/DECISIONS.md, 40); so those of a
+// node come in file order, as the paper wants.
 pub fn next_rule(input: &[u8], at: usize, kind: u8, label: u8) -> usize
     ensures { λ r. ⌜ NextRule (now (input .entry)) at kind label r ⌝ }
 {

@@ -6,24 +6,28 @@ use lib.Dec.{leb}
 use lib.ListN.{length, getD, take, drop}
 use Rattle.paper.specs.declared.Record.{Record}
 
+-- a record is so many numbers
+abbrev pub recordNumbers : ℕ
+recordNumbers = 5
+
 -- record i of a batch
 abbrev pub recordAt : List ℕ → ℕ → Record
 recordAt batch i = record {
-  kind = getD batch (5 * i) 0;
-  node = getD batch (5 * i + 1) 0;
-  left = getD batch (5 * i + 2) 0;
-  right = getD batch (5 * i + 3) 0;
-  flag = getD batch (5 * i + 4) 0;
+  kind = getD batch (recordNumbers * i) 0;
+  node = getD batch (recordNumbers * i + 1) 0;
+  left = getD batch (recordNumbers * i + 2) 0;
+  right = getD batch (recordNumbers * i + 3) 0;
+  flag = getD batch (recordNumbers * i + 4) 0;
 }
 
 -- its first records
 unfoldable pub recordsIn : ℕ → List ℕ → List Record
 recordsIn zero batch = []
-recordsIn (suc n) batch = recordAt batch 0 ∷ recordsIn n (drop 5 batch)
+recordsIn (suc n) batch = recordAt batch 0 ∷ recordsIn n (drop recordNumbers batch)
 
 -- the batch has so many records, and so many entries are there from the first on
 abbrev pub fits : ℕ → ℕ → ℕ → ℕ → Bool
-fits entries from numbers count = cond (leb (from + count) entries) (leb (5 * count) numbers) false
+fits entries from numbers count = cond (leb (from + count) entries) (leb (recordNumbers * count) numbers) false
 
 -- so many are stored: all of them, or none
 unfoldable pub fitted : ℕ → ℕ → ℕ → ℕ → ℕ

@@ -5,7 +5,7 @@ ghost use mathlib.Core.Path.{_≡_};
 ghost use Prim.Native.Nat.{_+_, _*_, _<_};
 ghost use lib.ListN.{length, replicate};
 ghost use Rattle.paper.specs.Records.{blankEntry};
-ghost use Rattle.table.specs.Batch.{recordAt, fitted, stored};
+ghost use Rattle.table.specs.Batch.{recordNumbers, recordAt, fitted, stored};
 ghost use Rattle.table.specs.Sets.{setIn};
 use paper::Record;
 use paper::Set;
@@ -77,7 +77,7 @@ fn fitting(entries: usize, from: usize, numbers: usize, count: usize) -> usize
 
 // Record i of a batch, which has to be there: `store` reads no more of them than `fitting` has found.
 fn record_at(batch: &[u16], i: usize) -> Record
-    requires { ⌜ 5 * i + 4 < length (now batch) ⌝ }
+    requires { ⌜ recordNumbers * i + 4 < length (now batch) ⌝ }
     ensures { λ r. ⌜ r ≡ recordAt (now (batch .entry)) i ⌝ }
 {
     let at = RECORD_NUMBERS * i;

@@ -15,18 +15,21 @@ use paper::Record;
 use paper::Set;
 use paper::Written;
 
+// A head goes to C as so many numbers: nodes, arity, open places, records used, the kind of the set, its record.
+const HEAD_NUMBERS: usize = 6;
+
 // In every function: 0 is returned with an answer, else the refusal's number, and then an out parameter is as it was. From C a slice is
 // a pointer and how many elements stand behind it, and an array or a number that is lent is a pointer. That so many elements are there,
 // and that none is lent twice at once, is all that is asked of a caller (docs/PROMISES.md, 'What is believed').
 
-// Builds the set of a stream; `head` is its head's numbers. They are written with an answer only, so that a head from before is not
-// half overwritten by a build that was refused.
+// Builds the set of a stream; `head` is its head's numbers. They are written with an answer only: a refusal is its number and
+// nothing else.
 #[no_mangle]
 pub extern "C" fn tarn_build(
     input: &[u8],
     work: &mut [u64],
     table: &mut [Record],
-    head: &mut [u16; 6],
+    head: &mut [u16; HEAD_NUMBERS],
 ) -> u8
     ensures { λ r. ⌜ TellsBuild (now (input .entry)) (now (work .entry)) (now (table .entry)) (now (head .entry)) r
         (now (work .exit)) (now (table .exit)) (now (head .exit)) ⌝ }
@@ -38,7 +41,7 @@ pub extern "C" fn tarn_build(
 // `rows` is how many rows are listed. The head is not trusted: it is read as any six numbers are, and tested with the table.
 #[no_mangle]
 pub extern "C" fn tarn_count(
-    head: &[u16; 6],
+    head: &[u16; HEAD_NUMBERS],
     table: &[Record],
     work: &mut [u64],
     rows: &mut u64,
@@ -51,10 +54,10 @@ pub extern "C" fn tarn_count(
     tell_count(counted, rows)
 }
 
-// `row` is the row of this number, in its first entries, one a place. It needs no out parameter: the refusal says all else.
+// `row` is the row of this number, in its first entries, one a place; what is behind them stays.
 #[no_mangle]
 pub extern "C" fn tarn_row(
-    head: &[u16; 6],
+    head: &[u16; HEAD_NUMBERS],
     table: &[Record],
     work: &mut [u64],
     number: u64,
@@ -71,7 +74,7 @@ pub extern "C" fn tarn_row(
 // `listed` is 1 if the row is listed, else 0: a byte, which every language that calls C has.
 #[no_mangle]
 pub extern "C" fn tarn_member(
-    head: &[u16; 6],
+    head: &[u16; HEAD_NUMBERS],
     table: &[Record],
     work: &mut [u64],
     row: &[u16],
@@ -88,7 +91,7 @@ pub extern "C" fn tarn_member(
 // `marks` has 1 for each node that stands at the place in some row, else 0. Bytes behind the tree's nodes stay.
 #[no_mangle]
 pub extern "C" fn tarn_project(
-    head: &[u16; 6],
+    head: &[u16; HEAD_NUMBERS],
     table: &[Record],
     work: &mut [u64],
     place: u16,
@@ -106,13 +109,13 @@ pub extern "C" fn tarn_project(
 // set can be narrowed in several ways.
 #[no_mangle]
 pub extern "C" fn tarn_fix(
-    head: &[u16; 6],
+    head: &[u16; HEAD_NUMBERS],
     source: &[Record],
     work: &mut [u64],
     place: u16,
     node: u16,
     target: &mut [Record],
-    fixed: &mut [u16; 6],
+    fixed: &mut [u16; HEAD_NUMBERS],
 ) -> u8
     ensures { λ r. ⌜ TellsFix (now (head .entry)) (now (source .entry)) (now (work .entry)) place node (now (target .entry)) (now (fixed .entry)) r
         (now (work .exit)) (now (target .exit)) (now (fixed .exit)) ⌝ }
@@ -123,7 +126,7 @@ pub extern "C" fn tarn_fix(
 }
 
 // The head of six numbers, whatever they are: nodes, arity, open places, records used, the kind of the set, its record.
-fn head_of(numbers: &[u16; 6]) -> Head
+fn head_of(numbers: &[u16; HEAD_NUMBERS]) -> Head
     ensures { λ h. ⌜ h ≡ headOf (now (numbers .entry)) ⌝ }
 {
     let set = set_of(numbers[4], numbers[5]);
@@ -153,7 +156,7 @@ fn set_of(kind: u16, number: u16) -> Set
 }
 
 // The six numbers of a head, which `head_of` reads back as the same head (proofs/HeadNumbers.antt).
-fn numbers_of(h: Head) -> [u16; 6]
+fn numbers_of(h: Head) -> [u16; HEAD_NUMBERS]
     ensures { λ numbers. ⌜ numbers ≡ headNumbers h ⌝ }
 {
     let set = h.set;
@@ -187,7 +190,7 @@ fn set_record(set: Set) -> u16
 // ---- each answer as a number, with what is written in its out parameter
 
 // The refusal's number is above 0 for every refusal, so 0 is free to say that there is an answer.
-fn tell_build(built: Built, head: &mut [u16; 6]) -> u8
+fn tell_build(built: Built, head: &mut [u16; HEAD_NUMBERS]) -> u8
     ensures { λ n. ⌜ Tells (told headNumbers (saysBuilt built)) (now (head .entry)) n (now (head .exit)) ⌝ }
 {
     match built {
@@ -250,7 +253,7 @@ fn tell_project(projected: Projected) -> u8
 }
 
 // As with a build.
-fn tell_fix(answer: Fixed, fixed: &mut [u16; 6]) -> u8
+fn tell_fix(answer: Fixed, fixed: &mut [u16; HEAD_NUMBERS]) -> u8
     ensures { λ n. ⌜ Tells (told headNumbers (saysFixed answer)) (now (fixed .entry)) n (now (fixed .exit)) ⌝ }
 {
     match answer {

@@ -20,13 +20,13 @@ use Rattle.table.proofs.store.Met as store-thm
 use Rattle.walks.proofs.Building.{Hand, Law, Step, Store, building-meets, turned}
 use Rattle.building.specs.Bounds.{batchNumbers}
 use Rattle.building.specs.Batch.{Record, recordsIn}
-use Rattle.building.specs.Standing.{State, Standing, Stopped, Stepped, IsStanding, Turned, turnsLeft}
+use Rattle.building.specs.Standing.{State, Standing, Stopped, Stepped, IsStanding, Fills, turnsLeft}
 use Rattle.building.specs.Driving.{Ready, Driven}
 use Rattle.building.proofs.Storing.{stored-behind}
 use Rattle.building.proofs.StateShape.{shape, from-field, count-field}
-use Rattle.building.proofs.filling.step.Symbol as step-def
-use Rattle.building.proofs.filling.step.Symbol.{name as #step}
-use Rattle.building.proofs.filling.step.Met as step-thm
+use Rattle.building.proofs.filling.fill.Symbol as fill-def
+use Rattle.building.proofs.filling.fill.Symbol.{name as #fill}
+use Rattle.building.proofs.filling.fill.Met as fill-thm
 use Rattle.building.proofs.drive.Key.{name as #drive}
 use Rattle.building.proofs.drive as drive
 use Rattle.building.proofs.drive.Statement as stated
@@ -68,7 +68,7 @@ starts input x ready = record {
 }
 
 onward : (input : List ℕ) (x₀ x : Held) (s : State) (w b : List ℕ) → length b ≡ length (x₀ .batch) → Before input x₀ x → x .state .going ≡ true
-    → Turned input (x .state) (x .work) s w b
+    → Fills input (x .state) (x .work) s w b
     → Before input x₀ (after x s w b) × (turnsLeft input s < turnsLeft input (x .state))
 onward input x₀ x s w b long before going told = (
   record {
@@ -105,7 +105,7 @@ stops input x₀ x before stopped = record {
 abbrev law : Law u64 shape storer from-field count-field
 law = record {
   Ask = λ i s w b. IsStanding i s w × (batchNumbers ≤ length b);
-  Tell = λ i s w b s′ w′ b′. Turned i s w s′ w′ b′;
+  Tell = λ i s w b s′ w′ b′. Fills i s w s′ w′ b′;
   Ready = λ i x. Ready i (x .table) (x .state) (x .work) (x .batch);
   Built = λ i x y. Driven i (x .table) (x .state) (x .work) (y .table) (y .state) (y .work);
   Before = Before;
@@ -121,9 +121,9 @@ unfolding code.routine tablesOf
 drive-spec 𝓤 H 𝓜 𝓖 𝓡 =
     entered 𝓤 H (tripleOf 𝓤 H (𝓖 .A) drive.signature (drive.spec 𝓤 H (𝓖 .A) (𝓜 .mem) (𝓡 .run)))
     (tables 𝓤 H 𝓜 𝓡 code.env .C) (tables 𝓤 H 𝓜 𝓡 code.env .Λ) #drive code.function (code.unfolded 𝓤 H 𝓜 𝓡)
-    (building-meets u64 shape storer from-field count-field law 𝓤 H (𝓖 .A) (givenOf 𝓤 H 𝓜 𝓖) (tyInt w64) #step #table·store
+    (building-meets u64 shape storer from-field count-field law 𝓤 H (𝓖 .A) (givenOf 𝓤 H 𝓜 𝓖) (tyInt w64) #fill #table·store
     (tablesOf 𝓤 H 𝓜 (tables 𝓤 H 𝓜 𝓡 code.env))
-    (cited 𝓤 H (Step u64 shape storer from-field count-field law 𝓤 H (𝓖 .A)) 𝓜 𝓡 code.env #step step-def.routine
-    code.calls-building·filling·step (step-thm.met 𝓤 H 𝓜 𝓖 𝓡))
+    (cited 𝓤 H (Step u64 shape storer from-field count-field law 𝓤 H (𝓖 .A)) 𝓜 𝓡 code.env #fill fill-def.routine
+    code.calls-building·filling·fill (fill-thm.met 𝓤 H 𝓜 𝓖 𝓡))
     (cited 𝓤 H (Store storer 𝓤 H (𝓖 .A)) 𝓜 𝓡 code.env #table·store store-def.routine
     code.calls-table·store (store-thm.met 𝓤 H 𝓜 𝓖 𝓡)))

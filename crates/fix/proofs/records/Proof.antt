@@ -18,7 +18,7 @@ use denote.Triple.Table.{cited, entered}
 use Rattle.laws.proofs.Lists.{which}
 use Rattle.paper.specs.Refusals.{over}
 use Rattle.paper.specs.Sound.{entry}
-use Rattle.table.specs.Batch.{recordsIn, stored}
+use Rattle.table.specs.Batch.{recordNumbers, recordsIn, stored}
 use Rattle.table.proofs.Batches.{length-records, storer}
 use Rattle.table.proofs.store.Symbol as store-def
 use Rattle.table.proofs.store.Symbol.{name as #table·store}
@@ -56,7 +56,7 @@ record SoFar (source : List Record) (x₀ x : Held) : Type 0 where
 
 -- a pass that is refused does nothing
 record Before (source : List Record) (x₀ x : Held) : Type 0 where
-  numbers : 5 ≤ length (x₀ .batch)
+  numbers : recordNumbers ≤ length (x₀ .batch)
   kept : x .work ≡ x₀ .work
   idle : x₀ .state .refused ≡ true → (x .state ≡ x₀ .state) × (x .table ≡ x₀ .table) × (x .state .going ≡ false)
   live : x₀ .state .refused ≡ false → SoFar source x₀ x
@@ -105,7 +105,7 @@ module _ (source : List Record) (x₀ x : Held) (before : Before source x₀ x) 
   has = has-to (t .at) (omega (arith, left))
 
   asks : length (x .batch) ≡ length (x₀ .batch)
-      → (t .at < length source) × (Turning t (entry source (t .at)) (x .work) × (5 ≤ length (x .batch)))
+      → (t .at < length source) × (Turning t (entry source (t .at)) (x .work) × (recordNumbers ≤ length (x .batch)))
   asks long = (
     omega (arith, left, live .fit .there),
     (
@@ -219,7 +219,7 @@ stops source x₀ x before ended = record {
 
 abbrev law : Law u64 shape storer at-field from-field count-field
 law = record {
-  Ask = λ t r w b. Turning t r w × (5 ≤ length b);
+  Ask = λ t r w b. Turning t r w × (recordNumbers ≤ length b);
   Tell = λ t r w b t′ w′ b′. Recorded t r w t′ w′ b′;
   Ready = λ source x. MayRecord source (x .state) (x .work) (x .table) (x .batch);
   Copied = λ source x y. RecordsDone source (x .state) (x .work) (x .table) (y .state) (y .work) (y .table);

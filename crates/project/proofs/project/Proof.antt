@@ -18,7 +18,7 @@ use Rattle.walks.proofs.Values.{enum, number, struct}
 use Rattle.project.specs.Face.{Projects}
 use Rattle.project.specs.Marks.{Finishable, Finishes}
 use Rattle.project.specs.Passing.{Driven, Ready}
-use Rattle.project.specs.Starting.{Begins}
+use Rattle.project.specs.Start.{Begins}
 use Rattle.project.proofs.Facing as Facing
 use Rattle.project.proofs.state.State as State
 use Rattle.project.proofs.state.State.Laws as StateLaws

@@ -15,7 +15,7 @@ use lib.Seq.{paste, paste-zero}
 use denote.Slice.{shr-slice-copy}
 use Rattle.paper.specs.declared.Record.{Record}
 use Rattle.paper.specs.Records.{blankEntry}
-use Rattle.table.specs.Batch.{recordAt, recordsIn, fitted, stored}
+use Rattle.table.specs.Batch.{recordNumbers, recordAt, recordsIn, fitted, stored}
 use Rattle.walks.proofs.Steps.{value, part, sets, rv-is, slice-typed, number-typed, owns-number}
 use Rattle.walks.proofs.Parameters.{by-value, shown, still, gone, goes-still, goes-shown, goes-number}
 use Rattle.walks.proofs.Locals.{finish, full, bare, locals, Blocks, envOf, enters, leaves, span}
@@ -114,7 +114,7 @@ module _ {M : Type 1} (𝓤 : URA M) (H : Heap 𝓤) (A : Atoms 𝓤) (W : Given
   abbrev to-record : ℕ → RecordAt 𝓤 H A mem run .Ghost
   to-record i = (((κ′, tt), (q′, tt), tt, (batch, (i, tt)), (batch-slice ∷ [], (vint w64 i ∷ [], tt))), tt)
 
-  goes-record : (i : ℕ) → i < 2 ^ 64 → 5 * i + 4 < length ns
+  goes-record : (i : ℕ) → i < 2 ^ 64 → recordNumbers * i + 4 < length ns
       → ent 𝓤 (sep 𝓤 (A .lft κ′ q′) (sem 𝓤 H A Batch)) (RecordAt 𝓤 H A mem run .pre (to-record i))
   goes-record i small inside =
       qed W (‵ (flft κ′ q′) ∷ ‵ Batch ∷ []) ∵ says ! inside $ nothing ! $ move ! (1 ∷ 0 ∷ []) $ join ! $ frame ! $
@@ -196,13 +196,13 @@ module _ {M : Type 1} (𝓤 : URA M) (H : Heap 𝓤) (A : Atoms 𝓤) (W : Given
           below : Tr (ltb i n) → i < n
           below h = ltb→lt i n h
 
-          all-there : Tr (ltb i n) → (at + n ≤ length ys) × (5 * n ≤ length ns)
+          all-there : Tr (ltb i n) → (at + n ≤ length ys) × (recordNumbers * n ≤ length ns)
           all-there h = within (length ys) at (length ns) count n i fit (below h)
 
           small : Tr (ltb i n) → i < 2 ^ 64
           small h = omega (arith, below h, n-small)
 
-          in-batch : Tr (ltb i n) → 5 * i + 4 < length ns
+          in-batch : Tr (ltb i n) → recordNumbers * i + 4 < length ns
           in-batch h = omega (arith, below h, all-there h .1)
 
           in-table : Tr (ltb i n) → at + i < length ys

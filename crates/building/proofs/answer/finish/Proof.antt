@@ -28,8 +28,8 @@ returns c input first entries all s limit long rest =
 flags-requires : tie.Need-flags-requires
 flags-requires c κs = small c .arity
 
-sub-places : tie.Need-sub-places
-sub-places c = omega (arith, c .flags .ensures, small (c .before))
+sub-open-places : tie.Need-sub-open-places
+sub-open-places c = omega (arith, c .flags .ensures, small (c .before))
 
 cast-set-of : tie.Need-cast-set-of
 cast-set-of c = omega (arith, small (c .before .before) .set)
@@ -74,7 +74,7 @@ finish-spec =
     same-length
     returns
     flags-requires
-    sub-places
+    sub-open-places
     cast-set-of
     set-of-requires
     cast-t11

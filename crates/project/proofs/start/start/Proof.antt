@@ -2,7 +2,7 @@
 use mathlib.Core.Path.{_∙_, ap, sym}
 use borrow.Author.Tests.{le-leb, lt-leb, not-false, not-true}
 use Rattle.laws.proofs.OpenPlaces.{open-from-one}
-use Rattle.project.specs.Starting.{rootMarked}
+use Rattle.project.specs.Start.{rootMarked}
 use borrow.Author.Needs.{needs}
 use Rattle.project.proofs.start.start.Statement.{statement}
 use Rattle.project.proofs.start.start.Tie as tie

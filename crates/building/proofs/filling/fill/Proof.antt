@@ -1,4 +1,4 @@
--- `filling::step` takes turns with a new batch. The loop's invariant: the building stands, or has stopped, with what is in the batch.
+-- `filling::fill` takes turns with a new batch. The loop's invariant: the building stands, or has stopped, with what is in the batch.
 use mathlib.Core.Bool.{false}
 use mathlib.Core.List.{List}
 use mathlib.Core.Logic.{_⊎_, inl, inr}
@@ -9,11 +9,11 @@ use borrow.Author.Tests.{leb-false, leb-true}
 use lib.ListN.{length}
 use Rattle.building.specs.Batch.{Record}
 use Rattle.building.specs.Bounds.{ruleRecords}
-use Rattle.building.specs.Standing.{Filling, Turned, turnsLeft}
+use Rattle.building.specs.Standing.{Filling, Fills, turnsLeft}
 use Rattle.building.specs.States.{emptied}
 use Rattle.building.proofs.TurnLoop.{Filled, emptied-filling, emptied-stepped, filled-ends, filled-filling, filled-onward, filled-starts}
-use Rattle.building.proofs.filling.step.Statement.{statement}
-use Rattle.building.proofs.filling.step.Tie as tie
+use Rattle.building.proofs.filling.fill.Statement.{statement}
+use Rattle.building.proofs.filling.fill.Tie as tie
 
 abbrev Inv-loop : tie.InvT-loop
 Inv-loop input work₀ batch₀ s₀ work batch s =
@@ -40,11 +40,11 @@ standing c =
     let l = c .before .before .before .loop in
     filled-filling _ _ _ _ (l .inv .2 _ (begun (c .before .before .before .before .before .before .before .before))) (c .before .before .loop-test .taken)
 
--- the step is done
+-- the batch is filled
 ended : (c : tie.At-loop Inv-loop μ-loop)
     → let start = c .before .before .before .before .before in
     let a = start .args in
-    ((c .loop .s .going ≡ false) ⊎ (ruleRecords < c .loop .s .count)) → Turned (a .input .now) (a .t) (a .work .now) (c .loop .s) (c .loop .work) (c .loop .batch)
+    ((c .loop .s .going ≡ false) ⊎ (ruleRecords < c .loop .s .count)) → Fills (a .input .now) (a .t) (a .work .now) (c .loop .s) (c .loop .work) (c .loop .batch)
 ended c stop made s few =
     let a = c .before .before .before .before .before .args in
     emptied-stepped (a .input .now) (a .t) (a .work .now) (a .batch .now) made s
@@ -102,8 +102,8 @@ same-length-4 c = c .before .loop .inv .0
 returns-2 : tie.Need-returns-2 Inv-loop μ-loop
 returns-2 c = ended (c .before) (inl (c .loop-test .left))
 
-pub step-spec : {M : Type 1} → statement M
-step-spec =
+pub fill-spec : {M : Type 1} → statement M
+fill-spec =
     tie.close
     (tie.spec
     Inv-loop
