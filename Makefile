@@ -3,8 +3,9 @@
 # First what may be set, then building, then installing.
 
 PREFIX ?= /usr/local
-ifeq ($(filter /%,$(PREFIX)),)
-$(error PREFIX must begin with /: the pkg-config file names it)
+# One word, since a blank in it would end a word of what pkg-config says.
+ifneq ($(words $(PREFIX)) $(filter /%,$(PREFIX)),1 $(PREFIX))
+$(error PREFIX must be one word that begins with /: the pkg-config file names it)
 endif
 # For those who make packages: DESTDIR stands before every path that is written to, and in no file.
 to = $(DESTDIR)$(PREFIX)
@@ -45,7 +46,7 @@ install: all
 	install -m 755 '$(PROGRAM)' '$(to)/bin/tarnsatchel-list'
 	install -m 644 include/tarnsatchel.h bindings/fortran/tarnsatchel.f90 '$(to)/include'
 	install -m 644 '$(ARCHIVE)' '$(to)/lib/libtarnsatchel.a'
-	sed -e 's|@PREFIX@|$(PREFIX)|' -e 's|@VERSION@|$(VERSION)|' tarnsatchel.pc.in >'$(to)/lib/pkgconfig/tarnsatchel.pc'
+	{ echo 'prefix=$(PREFIX)' && sed 's/@VERSION@/$(VERSION)/' tarnsatchel.pc.in; } >'$(to)/lib/pkgconfig/tarnsatchel.pc'
 	chmod 644 '$(to)/lib/pkgconfig/tarnsatchel.pc'
 
 # The folders stay: they are not ours alone.

@@ -5,7 +5,7 @@
 out=target/tests
 mkdir -p "$out" || exit 2
 # What a `make check` around this was told is not for the makes in here.
-unset MAKEFLAGS MAKELEVEL DESTDIR
+unset MAKEFLAGS MAKELEVEL DESTDIR PREFIX
 
 # Ends with a failed check, since the gate counts by the last line.
 give_up() {

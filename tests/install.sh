@@ -14,7 +14,7 @@ need_compiler
 need_fortran
 away=$(mktemp -d) || exit 2
 trap 'rm -rf "$away"' EXIT
-prefix=$PWD/$out/prefix stage=$PWD/$out/stage
+prefix=$away/prefix stage=$away/stage
 
 # makes WORDS ..: what follows cannot be tried where it fails
 makes() {
@@ -43,6 +43,7 @@ makes install DESTDIR="$stage" PREFIX=/usr/local
 umask "$mask"
 same "what is staged" <(files "$stage") <(sed 's, , usr/local/,' "$out/files")
 prints "a PREFIX from nowhere" 2 /dev/null make install PREFIX=usr
+prints "a PREFIX of two words" 2 /dev/null make install PREFIX="$away/two words"
 
 # ---- what pkg-config says
 
