@@ -6,21 +6,23 @@ use mathlib.Core.Path.{_∙_, _≡_, ap, refl, sym}
 use Prim.Native.Nat.{_-_, ℕ}
 use lib.ListN.{getD}
 use Rattle.paper.specs.declared.Built.the-variants as BuiltIs
+use Rattle.paper.specs.declared.Converted.the-variants as ConvertedIs
 use Rattle.paper.specs.declared.Counted.the-variants as CountedIs
 use Rattle.paper.specs.declared.Fixed.the-variants as FixedIs
 use Rattle.paper.specs.declared.Head.{Head}
 use Rattle.paper.specs.declared.Member.the-variants as MemberIs
 use Rattle.paper.specs.declared.Projected.the-variants as ProjectedIs
 use Rattle.paper.specs.declared.Refusal.{Refusal}
-use Rattle.paper.specs.declared.Refusal.the-variants.{LongInput, ManyNodes, Node, NotSound, Place, Query, RowLength, RowNumber, ShortOutput, ShortTable, ShortWork, Tree, Twice, UnitTwice}
+use Rattle.paper.specs.declared.Refusal.the-variants.{LongInput, ManyNodes, Node, NotSound, Place, Query, RowLength, RowNumber, ShortOutput, ShortTable, ShortWork, Text, Tree, Twice, UnitTwice}
 use Rattle.paper.specs.declared.Written.the-variants as WrittenIs
 use Rattle.paper.specs.declared.Built.{Built}
+use Rattle.paper.specs.declared.Converted.{Converted}
 use Rattle.paper.specs.declared.Counted.{Counted}
 use Rattle.paper.specs.declared.Fixed.{Fixed}
 use Rattle.paper.specs.declared.Member.{Member}
 use Rattle.paper.specs.declared.Projected.{Projected}
 use Rattle.paper.specs.declared.Written.{Written}
-use Rattle.paper.specs.Answers.{numberOf, saysBuilt, saysCounted, saysFixed, saysMember, saysProjected, saysWritten}
+use Rattle.paper.specs.Answers.{numberOf, saysBuilt, saysConverted, saysCounted, saysFixed, saysMember, saysProjected, saysWritten}
 use Rattle.paper.specs.Refusals.{Reply, answer, refused}
 
 -- what is said, read back, is the answer: so two answers that say the same are one
@@ -32,7 +34,7 @@ told-apart says back reads a b e = sym (reads a) ∙ ap back e ∙ reads b
 abbrev pub refusalOf : ℕ → Refusal
 refusalOf n =
     getD (Tree ∷ ManyNodes ∷ Query ∷ Twice ∷ ShortWork ∷ ShortTable ∷ Place ∷ Node ∷ RowNumber ∷ ShortOutput ∷ NotSound ∷ UnitTwice
-    ∷ RowLength ∷ LongInput ∷ []) (n - 1) Tree
+    ∷ RowLength ∷ LongInput ∷ Text ∷ []) (n - 1) Tree
 
 pub refusal-told : (r : Refusal) → refusalOf (numberOf r) ≡ r
 refusal-told Tree = refl
@@ -49,6 +51,7 @@ refusal-told NotSound = refl
 refusal-told UnitTwice = refl
 refusal-told RowLength = refl
 refusal-told LongInput = refl
+refusal-told Text = refl
 
 -- ---- the answers
 abbrev builtOf : Reply Head → Built
@@ -118,3 +121,14 @@ one-fixed = told-apart saysFixed fixedOf reads
     reads : (a : Fixed) → fixedOf (saysFixed a) ≡ a
     reads (FixedIs.Set h) = refl
     reads (FixedIs.Refused r) = ap FixedIs.Refused (refusal-told r)
+
+abbrev convertedOf : Reply ℕ → Converted
+convertedOf (refused n) = ConvertedIs.Refused (refusalOf n)
+convertedOf (answer n) = ConvertedIs.Bytes n
+
+pub one-converted : (a b : Converted) → saysConverted a ≡ saysConverted b → a ≡ b
+one-converted = told-apart saysConverted convertedOf reads
+  where
+    reads : (a : Converted) → convertedOf (saysConverted a) ≡ a
+    reads (ConvertedIs.Bytes n) = refl
+    reads (ConvertedIs.Refused r) = ap ConvertedIs.Refused (refusal-told r)

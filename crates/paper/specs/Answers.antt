@@ -2,7 +2,7 @@
 use mathlib.Core.Bool.{Bool, true, false}
 use Prim.Native.Nat.{ℕ}
 pub use Rattle.paper.specs.declared.Refusal.{Refusal}
-use Rattle.paper.specs.declared.Refusal.the-variants.{Tree, ManyNodes, Query, Twice, ShortWork, ShortTable, Place, Node, RowNumber, ShortOutput, NotSound, UnitTwice, RowLength, LongInput}
+use Rattle.paper.specs.declared.Refusal.the-variants.{Tree, ManyNodes, Query, Twice, ShortWork, ShortTable, Place, Node, RowNumber, ShortOutput, NotSound, UnitTwice, RowLength, LongInput, Text}
 pub use Rattle.paper.specs.declared.Built.{Built}
 use Rattle.paper.specs.declared.Built.the-variants as BuiltIs
 pub use Rattle.paper.specs.declared.Counted.{Counted}
@@ -15,6 +15,8 @@ pub use Rattle.paper.specs.declared.Projected.{Projected}
 use Rattle.paper.specs.declared.Projected.the-variants as ProjectedIs
 pub use Rattle.paper.specs.declared.Fixed.{Fixed}
 use Rattle.paper.specs.declared.Fixed.the-variants as FixedIs
+pub use Rattle.paper.specs.declared.Converted.{Converted}
+use Rattle.paper.specs.declared.Converted.the-variants as ConvertedIs
 use Rattle.paper.specs.Records.{Head}
 use Rattle.paper.specs.Refusals.{Reply, refused, answer}
 
@@ -33,6 +35,7 @@ numberOf NotSound = 11
 numberOf UnitTwice = 12
 numberOf RowLength = 13
 numberOf LongInput = 14
+numberOf Text = 15
 
 abbrev pub saysBuilt : Built → Reply Head
 saysBuilt (BuiltIs.Set h) = answer h
@@ -60,6 +63,11 @@ saysProjected (ProjectedIs.Refused r) = refused (numberOf r)
 abbrev pub saysFixed : Fixed → Reply Head
 saysFixed (FixedIs.Set h) = answer h
 saysFixed (FixedIs.Refused r) = refused (numberOf r)
+
+-- how many bytes the result has; they stand in the output
+abbrev pub saysConverted : Converted → Reply ℕ
+saysConverted (ConvertedIs.Bytes n) = answer n
+saysConverted (ConvertedIs.Refused r) = refused (numberOf r)
 
 -- what of an answer is told, where the rest stands in a lent buffer
 abbrev pub told : {A B : Type 0} → (A → B) → Reply A → Reply B

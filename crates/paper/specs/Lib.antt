@@ -10,3 +10,8 @@ pub mod Questions
 pub mod Refusals
 pub mod Answers
 pub mod Cases
+pub mod WrittenTree
+pub mod BracketedText
+pub mod CanonicalText
+pub mod Image
+pub mod Conversions

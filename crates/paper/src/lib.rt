@@ -66,6 +66,7 @@ pub enum Refusal {
     UnitTwice,
     RowLength,
     LongInput,
+    Text,
 }
 
 impl Refusal {
@@ -89,6 +90,7 @@ impl Refusal {
             Refusal::UnitTwice => 12,
             Refusal::RowLength => 13,
             Refusal::LongInput => 14,
+            Refusal::Text => 15,
         }
     }
 }
@@ -129,5 +131,11 @@ pub enum Projected {
 // Fix: the new set stands in the target, and this is its head.
 pub enum Fixed {
     Set(Head),
+    Refused(Refusal),
+}
+
+// Text to tree, and tree to text: the result stands in the first so many bytes of the output.
+pub enum Converted {
+    Bytes(usize),
     Refused(Refusal),
 }

@@ -21,3 +21,6 @@ pub const MOST_RECORDS: usize = 60000;
 
 // Rows of a record: 2 to the power of 48, which is 4,096 to the power of 4, so that only a record that lists some row twice can pass it.
 pub const MOST_ROWS: u64 = 281474976710656;
+
+// Nodes of a written tree (request 2026-01). So its image, with a branch for each and one pad more, has at most 4,095 nodes.
+pub const MOST_WRITTEN_NODES: usize = 2047;

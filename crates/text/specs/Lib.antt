@@ -1,0 +1,5 @@
+pub mod Face
+pub mod JudgeText
+pub mod WriteImage
+pub mod JudgeImage
+pub mod WriteText

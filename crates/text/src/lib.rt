@@ -1,0 +1,1 @@
+// Test trees as bracketed text.

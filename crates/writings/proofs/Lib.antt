@@ -1,0 +1,11 @@
+pub mod Endings
+pub mod Signs
+pub mod Cutting
+pub mod Texts
+pub mod CanonicalTexts
+pub mod TidyTexts
+pub mod Images
+pub mod ImageTrees
+pub mod ImageAccepted
+pub mod RoundTrips
+pub mod Examples

@@ -1,0 +1,3 @@
+pub mod Tidy
+pub mod ReadText
+pub mod ReadImage
