@@ -13,7 +13,7 @@ use Rattle.paper.specs.WrittenTree.{Forest, nil, tree, WrittenTree, forestOf, f
 use Rattle.writings.specs.ReadImage.{joined, withRecord, onward, joinedFrom, oneTree, readImage}
 use Rattle.text.specs.JudgeImage.{Unjoined, nothingRead, faulty, withPad, withBranch, recordJudged, imageJudged, acceptsImage}
 use Rattle.writings.proofs.Texts.{one-root-read, one-root-found}
-use Rattle.text.proofs.JudgedTokens.{allNodes}
+use Rattle.text.proofs.Endings.{allNodes}
 
 -- ---- the numbers of unjoined forests
 abbrev isPad : List Forest → Bool

@@ -1,5 +1,5 @@
 pub mod Face
-pub mod JudgeText
-pub mod WriteImage
+pub mod Pass
+pub mod Reading
 pub mod JudgeImage
 pub mod WriteText

@@ -1,1 +1,5 @@
 // Test trees as bracketed text.
+mod pass;
+mod reading;
+mod records;
+mod tokens;

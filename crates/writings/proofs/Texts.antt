@@ -70,13 +70,13 @@ refused-exactly t = (λ e w h. Option·none-ne-some w (sym e ∙ writes-read t w
     go (some w) e h = absurd (h w (read-writes t w e))
 
 -- ---- a tree that has a text is allowed
-abbrev Fit : List Token → Type 0
+abbrev pub Fit : List Token → Type 0
 Fit [] = Unit {0}
 Fit (number l ∷ ts) = (l ≤ 63) × Fit ts
 Fit (opening ∷ ts) = Fit ts
 Fit (closing ∷ ts) = Fit ts
 
-cut-fit : {t : List ℕ} {ts : List Token} → Cut t ts → Fit ts
+pub cut-fit : {t : List ℕ} {ts : List Token} → Cut t ts → Fit ts
 cut-fit end = tt
 cut-fit (blank g) = cut-fit g
 cut-fit (line-end g) = cut-fit g

@@ -1,0 +1,47 @@
+// What the pass over a text keeps: the struct, how it begins, and how a fault ends it.
+ghost use mathlib.Core.Path.{_≡_};
+ghost use mathlib.Core.List.{List};
+ghost use Prim.Native.Nat.{ℕ};
+ghost use Rattle.text.specs.Reading.{start, stopped};
+use paper::limits::HIGHEST_LABEL;
+use paper::limits::MOST_WRITTEN_NODES;
+
+// A number that is being read is its own mode, at most 63; behind these come two modes more.
+pub(crate) const OUTSIDE: usize = HIGHEST_LABEL as usize + 1;
+
+pub(crate) const REFUSED: usize = OUTSIDE + 1;
+
+// Beside it the pass is lent two buffers. The labels that wait for their branches stand at the end of the first, the last read before
+// the others, from `first` on; the image has so many `bytes` of the second by now. `may` is that a number stands just before, which
+// may have brackets. The numbers are as wide as a register: the fewer gaps between fields, the more of it the compiler keeps there.
+pub(crate) struct Reading {
+    pub(crate) mode: usize,
+    pub(crate) depth: usize,
+    pub(crate) nodes: usize,
+    pub(crate) first: usize,
+    pub(crate) bytes: usize,
+    pub(crate) may: bool,
+}
+
+// Before the first byte: no label waits, so the first is behind the end.
+pub(crate) fn begin() -> Reading
+    ensures { λ r. ⌜ r ≡ start ⌝ }
+{
+    Reading {
+        mode: OUTSIDE,
+        depth: 0,
+        nodes: 0,
+        first: MOST_WRITTEN_NODES,
+        bytes: 0,
+        may: false,
+    }
+}
+
+// A fault. Nothing that is kept is looked at any more.
+pub(crate) fn stop(s: Reading) -> Reading
+    ensures { λ r. ⌜ r ≡ stopped s ⌝ }
+{
+    let mut t = s;
+    t.mode = REFUSED;
+    t
+}
