@@ -57,7 +57,7 @@ record-faulty u k l h = go (eqb k 1 && eqb l 0) (eqb k 2 && leb l 63)
     go false true = rw h
     go false false = refl
 
-bytes-faulty : (t : List ℕ) (u : Unjoined) → u .fine ≡ false → (imageJudged u t) .fine ≡ false
+pub bytes-faulty : (t : List ℕ) (u : Unjoined) → u .fine ≡ false → (imageJudged u t) .fine ≡ false
 bytes-faulty [] u h = h
 bytes-faulty (k ∷ []) u h = refl
 bytes-faulty (k ∷ l ∷ t) u h = bytes-faulty t (recordJudged u k l) (record-faulty u k l h)

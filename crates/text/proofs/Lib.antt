@@ -12,3 +12,10 @@ pub mod OneByte
 pub mod WholeText
 pub mod JudgedImages
 pub mod WrittenTexts
+pub mod ImageRecords
+pub mod WritingBack
+pub mod WaitingNodes
+pub mod WrittenRecords
+pub mod ReadBack
+pub mod WritingTexts
+pub mod TextReplies

@@ -10,7 +10,7 @@ use Rattle.paper.specs.Image.{forestBytes, imageBytes}
 use Rattle.text.specs.WriteText.{Waiting, others, children, inside, blankIf, completed, textBefore}
 
 -- the image's bytes from the last to the first
-abbrev bytesBack : Forest → List ℕ
+abbrev pub bytesBack : Forest → List ℕ
 bytesBack nil = 0 ∷ 1 ∷ []
 bytesBack (tree l c s) = l ∷ 2 ∷ (bytesBack s ++ bytesBack c)
 
@@ -68,8 +68,15 @@ bytes-back (tree l c s) =
     ∙ ap (λ x. x ++ reverse (forestBytes c)) (reverse-append (forestBytes s) (2 ∷ l ∷ []))
     ∙ rw (bytes-back c, bytes-back s)
 
-pub text-written : (w : WrittenTree) → textBefore [] (reverse (imageBytes w)) ≡ textOf w
+-- behind the root's own record, from the last byte to the first
+abbrev pub behindRoot : WrittenTree → List ℕ
+behindRoot w = bytesBack nil ++ bytesBack (w .children)
+
+pub root-last : (w : WrittenTree) → reverse (imageBytes w) ≡ w .label ∷ 2 ∷ behindRoot w
+root-last w = bytes-back (forestOf w)
+
+-- where the root waits, the rest of the image makes the text
+pub text-written : (w : WrittenTree) → textBefore (others (w .label) ∷ []) (behindRoot w) ≡ textOf w
 text-written w =
-    ap (textBefore []) (bytes-back (forestOf w)) ∙ append-nil _
-    ∙ ap (textBefore (others (w .label) ∷ [])) (sym (append-nil (bytesBack nil ++ bytesBack (w .children))))
+    ap (textBefore (others (w .label) ∷ [])) (sym (append-nil (behindRoot w)))
     ∙ both-read (w .label) (w .children) nil (forest-back (w .children)) (forest-back nil) [] []

@@ -3,3 +3,4 @@ pub mod Pass
 pub mod Reading
 pub mod JudgeImage
 pub mod WriteText
+pub mod Writing

@@ -15,31 +15,33 @@ pub data Waiting : Type 0 where
 abbrev pub blankIf : Bool → List ℕ
 blankIf b = cond b (32 ∷ []) []
 
--- a tree is complete: the nodes whose brackets it closes are complete too. What waits then, and what is written before it
+-- a tree is complete: the nodes inside whose brackets it is the first are complete too, and the next one has others.
+-- What waits then, and what is written before it. (In an image no node waits for its children then.)
 abbrev pub completed : List Waiting → List Waiting × List ℕ
 completed [] = ([], [])
 completed (others l ∷ ws) = (children l true ∷ ws, [])
-completed (children l b ∷ ws) = (ws, [])
+completed (children l b ∷ ws) = (children l true ∷ ws, [])
 completed (inside l ∷ ws) = ((completed ws) .0, (completed ws) .1 ++ (decimal l ++ (40 ∷ [])))
 
--- a pad
+-- a pad: the last node that waits has no others, or it has no children and is complete. (In an image it is not inside its brackets.)
 abbrev pub missing : List Waiting → List Waiting × List ℕ
 missing [] = ([], [])
 missing (others l ∷ ws) = (children l false ∷ ws, [])
 missing (children l b ∷ ws) = ((completed ws) .0, (completed ws) .1 ++ (decimal l ++ blankIf b))
-missing (inside l ∷ ws) = (ws, [])
+missing (inside l ∷ ws) = ((completed ws) .0, (completed ws) .1 ++ (decimal l ++ blankIf true))
 
--- a branch
+-- a branch: the last of the others, or of the children, behind which the brackets are closed. (In an image they are not yet.)
 abbrev pub met : ℕ → List Waiting → List Waiting × List ℕ
 met m [] = (others m ∷ [], [])
 met m (others l ∷ ws) = (others m ∷ others l ∷ ws, [])
 met m (children l b ∷ ws) = (others m ∷ inside l ∷ ws, 41 ∷ [])
-met m (inside l ∷ ws) = (others m ∷ inside l ∷ ws, [])
+met m (inside l ∷ ws) = (others m ∷ inside l ∷ ws, 41 ∷ [])
 
--- the text that is still to be written, of bytes read from the last to the first
+-- the text that is still to be written, of bytes read from the last to the first: none where no node waits
 abbrev pub textBefore : List Waiting → List ℕ → List ℕ
 textBefore ws [] = []
 textBefore ws (l ∷ []) = []
-textBefore ws (l ∷ k ∷ bytes) =
-    let step : List Waiting × List ℕ = cond (eqb k 1) (missing ws) (met l ws) in
+textBefore [] (l ∷ k ∷ bytes) = []
+textBefore (w ∷ ws) (l ∷ k ∷ bytes) =
+    let step : List Waiting × List ℕ = cond (eqb k 1) (missing (w ∷ ws)) (met l (w ∷ ws)) in
     textBefore (step .0) bytes ++ step .1
