@@ -132,17 +132,17 @@ fn met(
     let top = writing.waiting;
     let node = waiting[top - 1];
     waiting[top] = label;
-    if node < CHILDREN {
+    if CHILDREN <= node {
+        waiting[top - 1] = node % LABELS + INSIDE;
+        let start = put_byte(&mut *text, writing.start, b')');
         return Writing {
             waiting: top + 1,
-            start: writing.start,
+            start: start,
         };
     }
-    waiting[top - 1] = node % LABELS + INSIDE;
-    let start = put_byte(&mut *text, writing.start, b')');
     Writing {
         waiting: top + 1,
-        start: start,
+        start: writing.start,
     }
 }
 

@@ -25,10 +25,10 @@ pub fn tree_to_text(tree: &[u8], out: &mut [u8]) -> Converted
     }
     let mut text = [0u8; LONGEST_TEXT];
     let start = write_text(tree, &mut text);
-    let length = LONGEST_TEXT - start;
-    if out.len() < length {
+    let text_length = LONGEST_TEXT - start;
+    if out.len() < text_length {
         return Converted::Refused(Refusal::ShortOutput);
     }
     copy_to_start(&text[start..], &mut *out);
-    Converted::Bytes(length)
+    Converted::Bytes(text_length)
 }

@@ -7,6 +7,10 @@ use Rattle.text.proofs.TextReplies.{image-refused, short-refused, text-
 use Rattle.text.proofs.tree_to_text.Statement.{statement}
 use Rattle.text.proofs.tree_to_text.Tie as tie
 
+-- The bytes have room: the output's length is tested before they are copied.
+copy-to-start-requires : tie.Need-copy-to-start-requires
+copy-to-start-requires c κs = search needs
+
 is-image-requires : tie.Need-is-image-requires
 is-image-requires c κs = search needs
 
@@ -18,8 +22,8 @@ returns c =
 write-text-requires : tie.Need-write-text-requires
 write-text-requires c κs = (sym (c .before .before .is-image .ensures) ∙ not-false _ (c .before .if1 .left), refl)
 
-sub-length : tie.Need-sub-length
-sub-length c = search needs
+sub-text-length : tie.Need-sub-text-length
+sub-text-length c = search needs
 
 returns-2 : tie.Need-returns-2
 returns-2 c =
@@ -34,9 +38,6 @@ part-copy-to-start-start c = search needs
 
 part-copy-to-start-end : tie.Need-part-copy-to-start-end
 part-copy-to-start-end c = omega (arith, c .before .before .write-text .ensures .long)
-
-copy-to-start-requires : tie.Need-copy-to-start-requires
-copy-to-start-requires c κs = search needs
 
 same-length : tie.Need-same-length
 same-length c = search needs
@@ -55,7 +56,7 @@ tree-to-text-spec =
     is-image-requires
     returns
     write-text-requires
-    sub-length
+    sub-text-length
     returns-2
     sub-copy-to-start
     part-copy-to-start-start

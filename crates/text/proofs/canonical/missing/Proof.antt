@@ -1,4 +1,4 @@
--- `canonical::missing` meets its contract.
+-- `canonical::missing` meets its contract: a node has no others, or no children.
 use borrow.Author.Needs.{needs}
 use native.Mathlib.Omega.{arith}
 use Rattle.text.proofs.WrittenRecords.{can-complete, childless-room, no-children, no-others}

@@ -1,4 +1,4 @@
--- `canonical::put_childless` meets its contract.
+-- `canonical::put_childless` meets its contract: a label, with a blank or without.
 use mathlib.Core.List.{[], _∷_, append-nil}
 use Prim.Native.Nat.{_%_, _+_}
 use native.Mathlib.Omega.{arith}
