@@ -19,3 +19,4 @@ pub mod WrittenRecords
 pub mod ReadBack
 pub mod WritingTexts
 pub mod TextReplies
+pub mod TreeReplies

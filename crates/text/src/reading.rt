@@ -1,7 +1,7 @@
 // What the pass over a text keeps: the struct, how it begins, and how a fault ends it.
+ghost use mathlib.Core.Bool.{_&&_};
 ghost use mathlib.Core.Path.{_≡_};
-ghost use mathlib.Core.List.{List};
-ghost use Prim.Native.Nat.{ℕ};
+ghost use lib.Dec.{eqb, ltb};
 ghost use Rattle.text.specs.Reading.{start, stopped};
 use paper::limits::HIGHEST_LABEL;
 use paper::limits::MOST_WRITTEN_NODES;
@@ -44,4 +44,17 @@ pub(crate) fn stop(s: Reading) -> Reading
     let mut t = s;
     t.mode = REFUSED;
     t
+}
+
+// Whether the text was that of a tree, of which this is kept behind its last byte: no fault, every bracket closed, and a root.
+pub(crate) fn is_whole(s: Reading) -> bool
+    ensures { λ r. ⌜ r ≡ eqb (s .mode) 64 && (eqb (s .depth) 0 && ltb 0 (s .nodes)) ⌝ }
+{
+    if s.mode != OUTSIDE {
+        return false;
+    }
+    if s.depth != 0 {
+        return false;
+    }
+    0 < s.nodes
 }
