@@ -46,7 +46,8 @@ one-forest (tree l c s) bytes =
     ap (λ t. pred (forestsIn t)) (append-assoc (bytesBack s) (bytesBack c) bytes)
     ∙ ap pred (one-forest s (bytesBack c ++ bytes) ∙ ap suc (one-forest c bytes))
 
--- and so many the nodes wait for. Where something is read before a node's own forests, the first of these is in the reading
+-- and so many the nodes wait for: the last one for its others and its children, or for its children; each below it for what comes when
+-- the forest is read in which the last one stands
 abbrev expectsBelow : List Waiting → ℕ
 expectsBelow [] = 0
 expectsBelow (others l ∷ ws) = suc (expectsBelow ws)

@@ -124,7 +124,7 @@ module _ {waiting text₀ : List ℕ} {s : Writing} {text : List ℕ} {top start
   abbrev below : List Waiting × List ℕ
   below = completed (waits waiting (top - 1))
 
-  pub completing-room : HasRoom (length ((completed (waiters waiting s)) .1)) (s .start) text₀ → HasRoom (length ((completed (waits waiting top)) .1)) start text
+  completing-room : HasRoom (length ((completed (waiters waiting s)) .1)) (s .start) text₀ → HasRoom (length ((completed (waits waiting top)) .1)) start text
   completing-room h =
       room-left (C .puts) (length ((completed (waits waiting top)) .1)) h
       (omega (arith, ap length (C .written), length-append ((completed (waits waiting top)) .1) (C .done)))

@@ -15,8 +15,8 @@ pub data Waiting : Type 0 where
 abbrev pub blankIf : Bool → List ℕ
 blankIf b = cond b (32 ∷ []) []
 
--- a tree is complete: the nodes inside whose brackets it is the first are complete too, and the next one has others.
--- What waits then, and what is written before it. (In an image no node waits for its children then.)
+-- a tree is complete. If it is the first in brackets, so is the node before them, and so on; the next node that waits has others.
+-- What waits then, and what is written before it. (In an image no node but the last waits for its children.)
 abbrev pub completed : List Waiting → List Waiting × List ℕ
 completed [] = ([], [])
 completed (others l ∷ ws) = (children l true ∷ ws, [])
@@ -30,7 +30,8 @@ missing (others l ∷ ws) = (children l false ∷ ws, [])
 missing (children l b ∷ ws) = ((completed ws) .0, (completed ws) .1 ++ (decimal l ++ blankIf b))
 missing (inside l ∷ ws) = ((completed ws) .0, (completed ws) .1 ++ (decimal l ++ blankIf true))
 
--- a branch: the last of the others, or of the children, behind which the brackets are closed. (In an image they are not yet.)
+-- a branch: the last of the others of the last node that waits, or of its children, behind which its brackets are closed. (In an image
+-- they are not closed yet.)
 abbrev pub met : ℕ → List Waiting → List Waiting × List ℕ
 met m [] = (others m ∷ [], [])
 met m (others l ∷ ws) = (others m ∷ others l ∷ ws, [])

@@ -35,6 +35,7 @@ struct Writing {
     start: usize,
 }
 
+// One byte before those that are written.
 fn put_byte(text: &mut [u8; LONGEST_TEXT], start: usize, byte: u8) -> usize
     requires { ⌜ HasRoom 1 start (now text) ⌝ }
     ensures { λ r. ⌜ Puts (byte ∷ []) start (now (text .entry)) r (now (text .exit)) ⌝ }
@@ -45,7 +46,7 @@ fn put_byte(text: &mut [u8; LONGEST_TEXT], start: usize, byte: u8) -> usize
 
 // A label in decimal. Labels have at most two digits.
 fn put_label(text: &mut [u8; LONGEST_TEXT], start: usize, label: u8) -> usize
-    requires { ⌜ (label < 64) × HasRoom (length (decimal label)) start (now text) ⌝ }
+    requires { ⌜ HasRoom (length (decimal label)) start (now text) ⌝ }
     ensures { λ r. ⌜ Puts (decimal label) start (now (text .entry)) r (now (text .exit)) ⌝ }
 {
     if label < BASE {
@@ -55,7 +56,7 @@ fn put_label(text: &mut [u8; LONGEST_TEXT], start: usize, label: u8) -> usize
     put_byte(&mut *text, tens, b'0' + label / BASE)
 }
 
-// A tree is complete: the nodes inside whose brackets it is the first are complete too, and the next one has others.
+// A tree is complete. If it is the first in brackets, so is the node before them, and so on; the next node that waits has others.
 fn completed(
     waiting: &mut [u8; MOST_WRITTEN_NODES],
     text: &mut [u8; LONGEST_TEXT],
@@ -119,7 +120,8 @@ fn missing(
     )
 }
 
-// A branch: the last of the others of the last node that waits, or of its children, behind which its brackets are closed.
+// A branch: the last of the others of the last node that waits, or the last of its children, behind which its brackets are closed. The new
+// node waits then; more than can be written never do.
 fn met(
     waiting: &mut [u8; MOST_WRITTEN_NODES],
     text: &mut [u8; LONGEST_TEXT],
@@ -146,7 +148,7 @@ fn met(
     }
 }
 
-// All of an image: where its text starts, up to the end of `text`.
+// All of an image: where its text starts, which goes on to the end of `text`.
 pub(crate) fn write_text(tree: &[u8], text: &mut [u8; LONGEST_TEXT]) -> usize
     requires { ⌜ (acceptsImage (imageJudged nothingRead (now tree)) ≡ true) × (length (now text) ≡ 8188) ⌝ }
     ensures { λ r. ⌜ WritesText (now (tree .entry)) r (now (text .exit)) ⌝ }

@@ -28,7 +28,7 @@ fn is_written(kind: u8, label: u8) -> bool
     kind == BRANCH && label <= HIGHEST_LABEL
 }
 
-// One tree, not too large. Its root has no others: so its record stands just behind a pad.
+// One tree, not too large, and its root has no others.
 fn is_one_tree(trees: usize, nodes: usize, single: bool) -> bool
     ensures { λ r. ⌜ r ≡ (eqb trees 1 && (single && leb nodes 2047)) ⌝ }
 {
@@ -43,6 +43,7 @@ pub(crate) fn is_image(tree: &[u8]) -> bool
 {
     let mut trees: usize = 0;
     let mut nodes: usize = 0;
+    // The last record is a pad; it is a branch just behind one, so with no others.
     let mut pad = false;
     let mut single = false;
     let mut at = 0;

@@ -53,7 +53,7 @@ element-copy-out-put-label c = omega (arith, inside-table (c .before .before .be
 put-label-requires : tie.Need-put-label-requires Inv-loop μ-loop
 put-label-requires c κs =
     let h = c .before .before in
-    (omega arith, room-left (h .put-byte .ensures) _ (room (h .before .before)) (omega arith))
+    room-left (h .put-byte .ensures) _ (room (h .before .before)) (omega arith)
 
 sub-top : tie.Need-sub-top Inv-loop μ-loop
 sub-top c = omega (arith, c .before .before .before .before .before .before .before .loop-test .taken)

@@ -19,7 +19,9 @@ with-blank c =
     less-room _ (rw (le-leb 128 b (c .if1 .left)) at (c .before .pre)) (omega (arith, length-append (decimal (b % 64)) (32 ∷ [])))
 
 put-label-requires : tie.Need-put-label-requires
-put-label-requires c κs = (omega arith, less-room _ (c .before .before .pre) (omega (arith, length-append (decimal (c .before .before .args .node % 64)) (blankIf (leb 128 (c .before .before .args .node))))))
+put-label-requires c κs =
+    let b = c .before .before .args .node in
+    less-room _ (c .before .before .pre) (omega (arith, length-append (decimal (b % 64)) (blankIf (leb 128 b))))
 
 returns : tie.Need-returns
 returns c =
@@ -30,7 +32,7 @@ put-byte-requires : tie.Need-put-byte-requires
 put-byte-requires c κs = less-room 1 (with-blank (c .before)) (omega arith)
 
 put-label-requires-2 : tie.Need-put-label-requires-2
-put-label-requires-2 c κs = (omega arith, room-left (c .before .put-byte .ensures) _ (with-blank (c .before .before .before)) (omega arith))
+put-label-requires-2 c κs = room-left (c .before .put-byte .ensures) _ (with-blank (c .before .before .before)) (omega arith)
 
 returns-2 : tie.Need-returns-2
 returns-2 c =

@@ -9,10 +9,10 @@ use Rattle.text.proofs.canonical.put_label.Tie as tie
 
 -- the room of one digit, or of two
 one : (c : tie.Then1) → HasRoom 1 (c .before .args .start) (c .before .args .text .now)
-one c = rw (lt-ltb (c .before .args .label) 10 (c .if1 .taken)) at (c .before .pre .1)
+one c = rw (lt-ltb (c .before .args .label) 10 (c .if1 .taken)) at (c .before .pre)
 
 two : (c : tie.Else1) → HasRoom 2 (c .before .args .start) (c .before .args .text .now)
-two c = rw (le-ltb (c .before .args .label) 10 (c .if1 .left)) at (c .before .pre .1)
+two c = rw (le-ltb (c .before .args .label) 10 (c .if1 .left)) at (c .before .pre)
 
 add-put-byte : tie.Need-add-put-byte
 add-put-byte c = search needs

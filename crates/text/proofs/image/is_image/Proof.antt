@@ -126,7 +126,8 @@ returns-3 : tie.Need-returns-3 Inv-loop μ-loop
 returns-3 c =
     let k = c .before .before in
     let l = k .loop in
-    sym (ap acceptsImage (sym (judged k)) ∙ byte-refused (tree k) (l .at) (l .trees) (l .nodes) (l .pad) (l .single) (omega (arith, c .if4 .taken, c .before .loop-test .left)))
+    sym (ap acceptsImage (sym (judged k)) ∙ byte-refused (tree k) (l .at) (l .trees) (l .nodes) (l .pad) (l .single)
+    (omega (arith, c .if4 .taken, c .before .loop-test .left)))
 
 is-one-tree-requires : tie.Need-is-one-tree-requires Inv-loop μ-loop
 is-one-tree-requires c κs = search needs
