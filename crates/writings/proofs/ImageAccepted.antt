@@ -72,7 +72,7 @@ some-record : (rs : List StreamRecord) → 1 ≤ length rs → not (isNil rs) �
 some-record [] h = absurd (omega arith)
 some-record (r ∷ rs) h = refl
 
-records-pass : (w : WrittenTree) → Allowed w → Passes (treePart (imageRecords (forestOf w)))
+pub records-pass : (w : WrittenTree) → Allowed w → Passes (treePart (imageRecords (forestOf w)))
 records-pass w a =
     passes-append (atEach treeTests [] (imageRecords (forestOf w))) (treeEndTests (imageRecords (forestOf w)))
     (forest-passes (forestOf w) (a .labels) [] [] 0 refl (omega (arith, a .few))) (

@@ -8,4 +8,5 @@ pub mod Images
 pub mod ImageTrees
 pub mod ImageAccepted
 pub mod RoundTrips
-pub mod Examples
+pub mod Replies
+pub mod TypedTrees

@@ -1,3 +1,5 @@
 pub mod Tidy
 pub mod ReadText
 pub mod ReadImage
+pub mod Calls
+pub mod Cases
