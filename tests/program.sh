@@ -22,14 +22,16 @@ bounded() { timeout "$patience" env --default-signal=PIPE "$@"; }
 # ---- what is read and not proved
 
 # No contract says what a call of the system did, nor that the input named at a call is the one that was read (docs/PROMISES.md). So
-# each line of code that calls the system, takes bytes, names the input or hands it down stands in tests/believed.txt too: who changes
-# one, or adds one, sees it here and reads on.
+# each line of a program's code that calls the system, takes bytes, names the input or hands it down stands in tests/believed.txt too,
+# and each of any other room that calls the system: who changes one, or adds one, sees it here and reads on.
 read_lines() {
-    local calls='\b(tell|answer|list|rows|put_line|make_room|pass_on|hand_on)\(' system='\b(io|libc|os)\b'
-    grep -rE --include='*.rt' "$system" crates | grep -v '^crates/list/'
-    (cd crates/list/src && grep -E "$system|$calls|\binput\b|&\[u8\]" -r . | sort -s -t : -k 1,1 | grep -vE ':[[:space:]]*(//|requires|ensures|ghost)')
+    local calls='\b(tell|answer|list|rows|put_line|make_room|pass_on|hand_on)\(' system='\b(io|libc|os)\b' programs='^crates/(list)/'
+    {
+        grep -rE --include='*.rt' "$system" crates | grep -vE "$programs"
+        grep -rE --include='*.rt' "$system|$calls|\binput\b|&\[u8\]" crates | grep -E "$programs"
+    } | grep -vE ':[[:space:]]*(//|requires|ensures|ghost)' | sort -s -t : -k 1,1 | sed -e 's|^crates/||' -e 's|/src/|/|'
 }
-same "the rooms that can call the system" <(grep -E ':.*\b(io|libc|os)\b' crates.txt | cut -d : -f 1) <(echo list)
+same "the rooms that can call the system" <(grep -E ':.*\b(io|libc|os)\b' crates.txt | cut -d : -f 1) <(printf 'lines\nlist\n')
 same "what is read and not proved" <(read_lines) <(grep -v '^#' tests/believed.txt)
 
 # ---- README.md

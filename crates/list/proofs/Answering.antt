@@ -31,7 +31,8 @@ use Rattle.list.specs.declared.page.Page.{Page}
 use Rattle.list.specs.Handing.{nothingHanded}
 use Rattle.list.specs.Listing.{Going, Lists, Ready, Rows, Tells, headOf, linesTo, setText}
 use Rattle.list.specs.Page.{Facts, Opens, Refuses, opened}
-use Rattle.list.specs.Text.{factText, programText, recordsWord, rowsWord}
+use Rattle.lines.specs.Text.{factText}
+use Rattle.list.specs.Text.{programText, recordsWord, rowsWord}
 use Rattle.list.proofs.LinesText.{to-all}
 
 -- ---- the program

@@ -1,4 +1,3 @@
-pub mod Numbers
 pub mod Putting
 pub mod Waiting
 pub mod Opening

@@ -15,8 +15,10 @@ use Rattle.paper.specs.Row.{Row}
 use Rattle.row.proofs.RowNumbers.{row-listed}
 use Rattle.list.specs.Bounds.{longestLine, longestOpening}
 use Rattle.list.specs.Listing.{linesTo, setText}
-use Rattle.list.specs.Text.{factText, lineText, linesText, recordsWord, rowText, rowsWord}
-use Rattle.list.proofs.Putting.{fact-short, row-short}
+use Rattle.lines.specs.Text.{factText}
+use Rattle.list.specs.Text.{lineText, linesText, recordsWord, rowText, rowsWord}
+use Rattle.lines.proofs.Putting.{fact-short}
+use Rattle.list.proofs.Putting.{row-short}
 
 lines-append : (xs ys : List Row) → linesText (xs ++ ys) ≡ linesText xs ++ linesText ys
 lines-append [] ys = refl

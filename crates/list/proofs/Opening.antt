@@ -20,7 +20,8 @@ use Rattle.list.specs.declared.handed.Handed.{Handed}
 use Rattle.list.specs.declared.page.Page.{Page}
 use Rattle.list.specs.Handing.{nothingHanded}
 use Rattle.list.specs.Page.{Facts, Lines, MakesRoom, Opens, Refuses, RowThere, ended, lined, withRoom}
-use Rattle.list.specs.Text.{Puts, lineText}
+use Rattle.lines.specs.Put.{Puts}
+use Rattle.list.specs.Text.{lineText}
 use Rattle.list.proofs.Waiting.{room-failed, room-made}
 
 pub opens-refused : (b : Built) (n : Counted) (why : Refusal) (t : Page) (text : List ℕ) → b ≡ BuiltIs.Refused why

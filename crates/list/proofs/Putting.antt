@@ -1,21 +1,16 @@
--- Bytes put one after the other: what is put behind what was put stands behind it.
+-- The entries of a row put one after the other, and how many bytes they take.
 use mathlib.Core.List.{List, [], _++_, _∷_, append-assoc, append-nil}
 use mathlib.Core.Path.{_∙_, _≡_, ap, refl, subst, sym}
 use Prim.Native.Nat.{_*_, _+_, _<_, _≤_, suc, zero, ℕ}
 use native.Mathlib.Omega.{arith}
 use lib.ListN.{getD, length, length-append, take}
 use Rattle.list.specs.Bounds.{longestEntry}
-use Rattle.list.specs.Text.{Puts, entriesFrom, entryText, factText, numberText, rowText}
-use Rattle.list.proofs.Numbers.{number-short}
+use Rattle.list.specs.Text.{entriesFrom, entryText, rowText}
+use Rattle.lines.specs.Put.{Puts}
+use Rattle.lines.specs.Text.{numberText}
+use Rattle.lines.proofs.Numbers.{number-short}
+use Rattle.lines.proofs.Putting.{puts-then}
 
-pub puts-then : {first second : List ℕ} {at middle end : ℕ} {text text₁ text₂ : List ℕ} → Puts first at text middle text₁
-    → Puts second middle text₁ end text₂ → Puts (first ++ second) at text end text₂
-puts-then {first} {second} {at = at} {text = text} p q = record {
-  ends = omega (arith, p .ends, q .ends, length-append first second);
-  stands = q .stands ∙ ap (λ (bytes : List ℕ). bytes ++ second) (p .stands) ∙ append-assoc (take at text) first second;
-}
-
--- ---- entries
 pub puts-first : (place n : ℕ) {at end : ℕ} {text text′ : List ℕ} → place ≡ 0 → Puts (numberText n) at text end text′
     → Puts (entryText place n) at text end text′
 puts-first zero n e p = p
@@ -62,8 +57,3 @@ entries-short (x ∷ row) place =
 
 pub row-short : (row : List ℕ) → length (rowText row) ≤ longestEntry * length row
 row-short row = entries-short row 0
-
--- ---- facts
-pub fact-short : (word : List ℕ) (n : ℕ) → length (factText word n) ≤ length word + longestEntry
-fact-short word n =
-    omega (arith, length-append word (numberText n ++ (10 ∷ [])), length-append (numberText n) (10 ∷ []), number-short n)

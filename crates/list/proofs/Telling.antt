@@ -28,7 +28,8 @@ use Rattle.list.specs.declared.page.Page.{Page}
 use Rattle.list.specs.Handing.{HandsOn, Next, textOf}
 use Rattle.list.specs.Listing.{Fits, Going, Listable, Lists, Ready, Rows, Tells, linesTo, setText}
 use Rattle.list.specs.Page.{LineReady, Lines, PutsLine, RowThere, Waits, lined, passedOn, withRoom}
-use Rattle.list.specs.Text.{Puts, lineText, linesText}
+use Rattle.lines.specs.Put.{Puts}
+use Rattle.list.specs.Text.{lineText, linesText}
 use Rattle.list.proofs.LinesText.{line-short, to-all, to-more, to-short, to-whole}
 use Rattle.list.proofs.SoundRows.{rows-few, rows-long}
 use Rattle.list.proofs.Waiting.{waits-room}

@@ -14,7 +14,7 @@ use Rattle.list.specs.declared.handed.Handed.{Handed}
 use Rattle.list.specs.declared.page.Page.{Page}
 use Rattle.list.specs.Handing.{Due}
 use Rattle.list.specs.Page.{MakesRoom, Waits, passedOn, withRoom}
-use Rattle.list.specs.Text.{Puts}
+use Rattle.lines.specs.Put.{Puts}
 
 waits-all : (room : ℕ) (t : Page) → longestLine ≤ room - t .bytes → withRoom room t ≡ t
 waits-all room t h = rw (le-leb longestLine (room - t .bytes) h)
@@ -31,10 +31,6 @@ waits-room room t long within = go (leb longestLine (room - t .bytes)) refl
     go false e = rw e (omega (arith, long))
 
 -- ---- what waits may be handed to standard output
--- a part of the buffer is as long as it is asked for
-pub count-taken : (n : ℕ) (text : List ℕ) → n ≤ length text → n ≡ length (take n text)
-count-taken n text h = sym (length-take-le n text h)
-
 pub due : (input : List ℕ) (t : Page) (text : List ℕ) → Waits input t text → Due (pos 1) input (t .handed) (take (t .bytes) text)
 due input t text W = record {
   output = refl;

@@ -1,14 +1,11 @@
 -- How long an input may be; how many bytes the parts of the text take at most, in the order in which a line is made; and the buffer that
 -- they wait in.
 use Prim.Native.Nat.{ℕ, _+_, _*_}
+use Rattle.lines.specs.Bounds.{longestNumber, longestFact}
 
 -- the paper's limit for the program
 abbrev pub longestInput : ℕ
 longestInput = 16384
-
--- a number below 2 to the power of 64 in decimal digits
-abbrev pub longestNumber : ℕ
-longestNumber = 20
 
 -- an entry of a row, with a space before it
 abbrev pub longestEntry : ℕ
@@ -21,14 +18,6 @@ longestEntries = 4 * longestEntry
 -- a row's line, with its end
 abbrev pub longestLine : ℕ
 longestLine = longestEntries + 1
-
--- a word that a line of facts begins with: `records ` and `refused ` are the longest
-abbrev pub longestWord : ℕ
-longestWord = 8
-
--- such a line, with its end
-abbrev pub longestFact : ℕ
-longestFact = longestWord + longestNumber + 1
 
 -- what stands before the first row: the records made and the rows
 abbrev pub longestOpening : ℕ

@@ -17,7 +17,8 @@ use Rattle.paper.specs.Records.{listing}
 use Rattle.paper.specs.Refusals.{answer}
 use Rattle.paper.specs.Sound.{sound}
 use Rattle.list.specs.Handing.{textOf}
-use Rattle.list.specs.Text.{factText, linesText, programText, recordsWord, rowsWord}
+use Rattle.lines.specs.Text.{factText}
+use Rattle.list.specs.Text.{linesText, programText, recordsWord, rowsWord}
 
 -- the built set, or one that lists nothing
 abbrev pub headOf : Built → Head

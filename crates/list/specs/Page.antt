@@ -10,7 +10,9 @@ use Rattle.list.specs.declared.page.Page.{Page}
 use Rattle.paper.specs.declared.Head.{Head}
 use Rattle.paper.specs.Refusals.{Reply, refused, answer}
 use Rattle.list.specs.Handing.{Next, nothingHanded, textOf}
-use Rattle.list.specs.Text.{Puts, factText, lineText, recordsWord, rowsWord, refusedWord}
+use Rattle.lines.specs.Put.{Puts}
+use Rattle.lines.specs.Text.{factText, refusedWord}
+use Rattle.list.specs.Text.{lineText, recordsWord, rowsWord}
 
 -- one line, and nothing is to follow
 pub record Refuses (n : ℕ) (t : Page) (text′ : List ℕ) : Type 0 where

@@ -10,10 +10,11 @@ use crate::handed::Handed;
 use crate::handed::hand_on;
 use crate::handed::has_failed;
 use crate::handed::nothing;
-use crate::text::LONGEST_NUMBER;
-use crate::text::put_fact;
 use crate::text::put_row;
 use libc::STDOUT_FILENO;
+use lines::LONGEST_NUMBER;
+use lines::put_fact;
+use lines::put_refusal;
 use paper::Built;
 use paper::Counted;
 use paper::Head;
@@ -41,12 +42,7 @@ pub(crate) fn refuse(why: Refusal, text: &mut [u8]) -> Page
     requires { ⌜ (longestOpening ≤ length (now text)) × (length (now text) ≤ largestText) ⌝ }
     ensures { λ r. ⌜ Refuses (numberOf why) r (now (text .exit)) ⌝ }
 {
-    let bytes = put_fact(
-        &mut *text,
-        0,
-        &[b'r', b'e', b'f', b'u', b's', b'e', b'd', b' '],
-        why.number() as u64,
-    );
+    let bytes = put_refusal(&mut *text, why);
     Page {
         number: 0,
         rows: 0,

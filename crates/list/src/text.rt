@@ -1,55 +1,12 @@
-// Text behind the first `at` bytes of a buffer: words, numbers, the rows' lines. Each function answers how many bytes there are then.
-// Each asks for the room that it may need (specs/Bounds.antt), so none has to say that it did not fit.
-ghost use mathlib.Core.List.{[], _∷_};
-ghost use Prim.Native.Nat.{_+_, _*_, _≤_, _<_};
+// The rows' lines as text behind the first `at` bytes of a buffer, made of what `lines` puts. Each function answers how many bytes there
+// are then. Each asks for the room that it may need (specs/Bounds.antt), so none has to say that it did not fit.
+ghost use Prim.Native.Nat.{_+_, _≤_};
 ghost use lib.ListN.{length, take};
-ghost use Rattle.list.specs.Bounds.{longestNumber, longestEntry, longestEntries, longestLine, longestWord, longestFact, largestText};
-ghost use Rattle.list.specs.Text.{Puts, numberText, entryText, rowText, lineText, factText};
-
-// The digits of a number below 2 to the power of 64, at most.
-pub(crate) const LONGEST_NUMBER: usize = 20;
-
-// Any bytes. The loop ends with the word.
-pub(crate) fn put_word(text: &mut [u8], at: usize, word: &[u8]) -> usize
-    requires { ⌜ (at + length (now word) ≤ length (now text)) × (length (now text) ≤ largestText) ⌝ }
-    ensures { λ r. ⌜ Puts (now (word .entry)) at (now (text .entry)) r (now (text .exit)) ⌝ }
-{
-    let mut i = 0;
-    while i < word.len() {
-        text[at + i] = word[i];
-        i += 1;
-    }
-    at + word.len()
-}
-
-// A number in decimal digits.
-pub(crate) fn put_number(text: &mut [u8], at: usize, n: u64) -> usize
-    requires { ⌜ (at + longestNumber ≤ length (now text)) × (length (now text) ≤ largestText) ⌝ }
-    ensures { λ r. ⌜ Puts (numberText n) at (now (text .entry)) r (now (text .exit)) ⌝ }
-{
-    let mut digits = [0u8; LONGEST_NUMBER];
-    let count = io::decimal(n, &mut digits);
-    put_word(&mut *text, at, &digits[..count])
-}
-
-// The end of a line, or a space.
-fn put_byte(text: &mut [u8], at: usize, byte: u8) -> usize
-    requires { ⌜ (at < length (now text)) × (length (now text) ≤ largestText) ⌝ }
-    ensures { λ r. ⌜ Puts (byte ∷ []) at (now (text .entry)) r (now (text .exit)) ⌝ }
-{
-    text[at] = byte;
-    at + 1
-}
-
-// A word, a number and the end of the line.
-pub(crate) fn put_fact(text: &mut [u8], at: usize, word: &[u8], n: u64) -> usize
-    requires { ⌜ (length (now word) ≤ longestWord) × ((at + longestFact ≤ length (now text)) × (length (now text) ≤ largestText)) ⌝ }
-    ensures { λ r. ⌜ Puts (factText (now (word .entry)) n) at (now (text .entry)) r (now (text .exit)) ⌝ }
-{
-    let number = put_word(&mut *text, at, word);
-    let end = put_number(&mut *text, number, n);
-    put_byte(&mut *text, end, b'\n')
-}
+ghost use Rattle.list.specs.Bounds.{longestEntry, longestEntries, longestLine, largestText};
+ghost use Rattle.lines.specs.Put.{Puts};
+ghost use Rattle.list.specs.Text.{entryText, rowText, lineText};
+use lines::put_byte;
+use lines::put_number;
 
 // An entry of a row, with a space before it unless it is the first.
 fn put_entry(text: &mut [u8], at: usize, place: usize, n: u64) -> usize

@@ -2,7 +2,8 @@
 use native.Mathlib.Omega.{arith}
 use borrow.Author.Needs.{needs}
 use lib.Seq.{length-take-le}
-use Rattle.list.proofs.Waiting.{count-taken, due, passed}
+use Rattle.lines.proofs.Putting.{count-taken}
+use Rattle.list.proofs.Waiting.{due, passed}
 use Rattle.list.proofs.page.pass_on.Statement.{statement}
 use Rattle.list.proofs.page.pass_on.Tie as tie
 

@@ -6,7 +6,8 @@ use native.Mathlib.Omega.{arith}
 use borrow.Author.Needs.{needs}
 use lib.ListN.{getD, length, take}
 use Rattle.list.specs.Bounds.{longestEntry}
-use Rattle.list.specs.Text.{Puts, rowText}
+use Rattle.lines.specs.Put.{Puts}
+use Rattle.list.specs.Text.{rowText}
 use Rattle.list.proofs.Putting.{entry-short, puts-more, puts-none}
 use Rattle.list.proofs.text.put_entries.Statement.{statement}
 use Rattle.list.proofs.text.put_entries.Tie as tie

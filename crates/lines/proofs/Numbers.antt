@@ -1,7 +1,7 @@
 -- A number as text has the fewest digits that hold it, as `io::decimal` makes it: so both are one text, of at most 20 digits.
 use mathlib.Core.Bool.{Bool, cond, false, true}
 use mathlib.Core.List.{List, [], _∷_}
-use mathlib.Core.Path.{_∙_, _≡_, ap, refl, subst}
+use mathlib.Core.Path.{_∙_, _≡_, ap, refl}
 use Prim.Native.Nat.{_%_, _*_, _+_, _-_, _/_, _<_, _^_, _≤_, suc, zero, ℕ}
 use native.Mathlib.Nat.{one-le-pow, pow-le-pow-right, pow-suc, pow-zero}
 use native.Mathlib.Numerals.{add-one}
@@ -10,7 +10,7 @@ use borrow.Author.Tests.{leb-false, leb-true, ltb-false, ltb-true}
 use lib.Dec.{leb, ltb}
 use lib.ListN.{length, length-append, take}
 use Rattle.io.specs.Digits.{Fewest, digits, glyph}
-use Rattle.list.specs.Text.{Puts, digitsOf, numberText}
+use Rattle.lines.specs.Text.{digitsOf, numberText}
 
 length-digits : (k n : ℕ) → length (digits 10 k n) ≡ k
 length-digits zero n = refl
@@ -63,7 +63,7 @@ pub number-short : (n : ℕ) → length (numberText n) ≤ 20
 number-short n = omega (arith, length-digits (digitsOf 19 n) n, digits-few 19 n)
 
 -- a number of 64 bits has at most 20 digits
-pub decimal-short : (n k : ℕ) → n < 2 ^ 64 → Fewest 10 1 n k → k ≤ 20
+decimal-short : (n k : ℕ) → n < 2 ^ 64 → Fewest 10 1 n k → k ≤ 20
 decimal-short n k low e = go (leb k 20) refl
   where
     go : (c : Bool) → leb k 20 ≡ c → k ≤ 20
@@ -73,8 +73,6 @@ decimal-short n k low e = go (leb k 20) refl
         let most : 10 ^ 20 ≤ 10 ^ (k - 1) = pow-le-pow-right (omega arith) many in
         absurd (omega (arith, most, e .2 (omega (arith, many)), low))
 
--- the digits that `io::decimal` makes are put as the number's text
-pub puts-number : (n k : ℕ) (made : List ℕ) → k ≤ 20 → Fewest 10 1 n k → take k made ≡ digits 10 k n
-    → {at end : ℕ} {text text′ : List ℕ} → Puts (take k made) at text end text′ → Puts (numberText n) at text end text′
-puts-number n k made short few e {at} {end} {text} {text′} p =
-    subst (λ (bytes : List ℕ). Puts bytes at text end text′) (e ∙ decimal-is n k short few) p
+-- the digits that `io::decimal` makes are the number's text
+pub decimal-text : (n k : ℕ) (made : List ℕ) → n < 2 ^ 64 → Fewest 10 1 n k → take k made ≡ digits 10 k n → take k made ≡ numberText n
+decimal-text n k made low few e = e ∙ decimal-is n k (decimal-short n k low few) few

@@ -1,0 +1,14 @@
+-- How many bytes a number and a line take at most.
+use Prim.Native.Nat.{ℕ, _+_}
+
+-- a number below 2 to the power of 64 in decimal digits
+abbrev pub longestNumber : ℕ
+longestNumber = 20
+
+-- a word that a line begins with: `records ` and `refused ` are the longest
+abbrev pub longestWord : ℕ
+longestWord = 8
+
+-- such a line, with its end
+abbrev pub longestFact : ℕ
+longestFact = longestWord + longestNumber + 1
