@@ -109,14 +109,18 @@ need_archive() {
     [ -f "$archive" ] || give_up "no archive $archive"
 }
 
-# Sets `program`, the command of the listing program: TARN_PROGRAM if that is set, else crate `list`, proved first if it has changed.
-need_program() {
-    local file=${TARN_PROGRAM:-target/bin/list}
-    [ -n "${TARN_PROGRAM:-}" ] || rt check list >"$out/list.log" 2>&1 ||
-        give_up "rt check list: $(tail -n 1 "$out/list.log") (see $out/list.log)"
+# need_built NAME [FILE]: sets `built`, the command of the program of crate NAME, proved first if it has changed; or of FILE
+need_built() {
+    local name=$1 file=${2:-target/bin/$1}
+    [ -n "${2:-}" ] || rt check "$name" >"$out/$name.log" 2>&1 ||
+        give_up "rt check $name: $(tail -n 1 "$out/$name.log") (see $out/$name.log)"
     [ -x "$file" ] || give_up "no program $file"
-    program=("${program_runner[@]}" "$file")
+    built=("${program_runner[@]}" "$file")
 }
+# Set `program` and `tree`, the commands of the listing program and of the one for bracketed texts: TARN_PROGRAM and TARN_TREE if they
+# are set, else the crates `list` and `tree`.
+need_program() { need_built list "${TARN_PROGRAM:-}" && program=("${built[@]}"); }
+need_tree() { need_built tree "${TARN_TREE:-}" && tree=("${built[@]}"); }
 
 # c_program NAME FILE [WORDS ..]: the archive by its path, since another one may have any name. (tests/install.sh links with -l.)
 c_program() {

@@ -25,14 +25,38 @@ bounded() { timeout "$patience" env --default-signal=PIPE "$@"; }
 # each line of a program's code that calls the system, takes bytes, names the input or hands it down stands in tests/believed.txt too,
 # and each of any other room that calls the system: who changes one, or adds one, sees it here and reads on.
 read_lines() {
-    local calls='\b(tell|answer|list|rows|put_line|make_room|pass_on|hand_on)\(' system='\b(io|libc|os)\b' programs='^crates/(list)/'
+    local calls='\b(tell|answer|list|rows|put_line|make_room|pass_on|hand_on)\(' system='\b(io|libc|os)\b' programs='^crates/(list|tree)/'
     {
         grep -rE --include='*.rt' "$system" crates | grep -vE "$programs"
         grep -rE --include='*.rt' "$system|$calls|\binput\b|&\[u8\]" crates | grep -E "$programs"
     } | grep -vE ':[[:space:]]*(//|requires|ensures|ghost)' | sort -s -t : -k 1,1 | sed -e 's|^crates/||' -e 's|/src/|/|'
 }
-same "the rooms that can call the system" <(grep -E ':.*\b(io|libc|os)\b' crates.txt | cut -d : -f 1) <(printf 'lines\nlist\n')
+same "the rooms that can call the system" <(grep -E ':.*\b(io|libc|os)\b' crates.txt | cut -d : -f 1) <(printf 'lines\nlist\ntree\n')
 same "what is read and not proved" <(read_lines) <(grep -v '^#' tests/believed.txt)
+
+# ---- the tree program
+
+need_tree
+printf '9(5 6) ! // begins no comment\n' >"$out/typed.tree"
+printf '\1\0\1\0\1\0\2\6\2\5\1\0\2\11' >"$out/typed.records"
+prints "a typed tree" 0 "$out/typed.records" "${tree[@]}" <"$out/typed.tree"
+lines "a typed tree" 0
+for text in '' '9(5 6' '9(5 6))' '9 9' '05' '64' '9(5/6)'; do
+    prints "the text '$text'" 0 <(echo 'refused 15') "${tree[@]}" <<<"$text"
+    lines "the text '$text'" 0
+done
+# blanks NUMBER: the typed tree, and blanks up to so many bytes
+blanks() { printf "%-$1s" "$(cat "$out/typed.tree")"; }
+prints "a text of 65,536 bytes" 0 "$out/typed.records" "${tree[@]}" < <(blanks 65536)
+prints "a text of 65,537 bytes" 0 <(echo 'refused 14') "${tree[@]}" < <(blanks 65537)
+# children NUMBER: a node with so many children
+children() { printf '9(' && printf ' 63%.0s' $(seq "$1") && printf ')'; }
+same "the longest records" <(children 2046 | "${tree[@]}" | wc -c) <(echo 8190)
+prints "2,048 nodes" 0 <(echo 'refused 15') "${tree[@]}" < <(children 2047)
+for text in "$out/typed.tree" /dev/null; do
+    prints "the tree program, $text onto a full device" 0 /dev/null bash -c '"$@" >/dev/full' full "${tree[@]}" <"$text"
+    same "what it says, $text onto a full device" "$out/said" <(echo 'tree: the records could not be written')
+done
 
 # ---- README.md
 

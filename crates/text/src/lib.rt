@@ -21,8 +21,8 @@ use paper::Converted;
 use paper::Refusal;
 use paper::limits::MOST_WRITTEN_NODES;
 
-// At most so many bytes: a branch for each written node, and one pad more.
-const LONGEST_IMAGE: usize = RECORD * (2 * MOST_WRITTEN_NODES + 1);
+// At most so many bytes: a branch for each written node, and one pad more. An output of so many is never too short for an image.
+pub const LONGEST_IMAGE: usize = RECORD * (2 * MOST_WRITTEN_NODES + 1);
 
 // Text to tree: refusals 15 and 10. The image is made apart while the text is judged, since a refusal leaves the output as it was.
 pub fn text_to_tree(text: &[u8], out: &mut [u8]) -> Converted
