@@ -1,11 +1,16 @@
 -- The contracts of the functions for C leave no freedom: two results that one allows for one input are equal, in the number returned, in every lent buffer
 -- and in the out parameter, refusals too.
 use mathlib.Core.List.{List}
-use mathlib.Core.Path.{_∙_, _≡_, sym}
+use mathlib.Core.Path.{_∙_, _≡_, ap, sym}
 use Prim.Native.Nat.{ℕ}
+use lib.ListN.{length}
 use Rattle.paper.specs.declared.Record.{Record}
+use Rattle.paper.specs.Answers.{told}
+use Rattle.paper.specs.Conversions.{TextReply, TreeReply}
+use Rattle.paper.specs.Refusals.{Reply, outputAfter}
 use Rattle.paper.specs.Row.{Row}
-use Rattle.tarnsatchel.specs.Told.{TellsBuild, TellsCount, TellsFix, TellsMember, TellsProject, TellsRow}
+use Rattle.writings.proofs.Replies.{one-text-reply, one-tree-reply}
+use Rattle.tarnsatchel.specs.Told.{TellsBuild, TellsConversion, TellsCount, TellsFix, TellsMember, TellsProject, TellsRow, TellsText, TellsTree, answerAfter, code}
 
 module _ (work : List ℕ) (r s : ℕ) (work₁ work₂ : List ℕ) where
   pub one-build : (input : List ℕ) (table table₁ table₂ : List Record) (head head₁ head₂ : List ℕ)
@@ -36,3 +41,24 @@ module _ (work : List ℕ) (r s : ℕ) (work₁ work₂ : List ℕ) where
         → (r ≡ s) × (work₁ ≡ work₂) × (target₁ ≡ target₂) × (fixed₁ ≡ fixed₂)
     one-fix place n target target₁ target₂ fixed fixed₁ fixed₂ a b =
         (a .number ∙ sym (b .number), a .worked ∙ sym (b .worked), a .written ∙ sym (b .written), a .shown ∙ sym (b .shown))
+
+-- two replies that are right are one, so what is told of them is one
+one-conversion : (Right : Reply (List ℕ) → Type 0) → ((a b : Reply (List ℕ)) → Right a → Right b → a ≡ b)
+    → (out out₁ out₂ : List ℕ) (bytes bytes₁ bytes₂ r s : ℕ) → TellsConversion Right out bytes r out₁ bytes₁
+    → TellsConversion Right out bytes s out₂ bytes₂ → (r ≡ s) × (out₁ ≡ out₂) × (bytes₁ ≡ bytes₂)
+one-conversion Right one out out₁ out₂ bytes bytes₁ bytes₂ r s a b =
+    let e : a .reply ≡ b .reply = one (a .reply) (b .reply) (a .right) (b .right) in (
+      a .number ∙ ap code e ∙ sym (b .number),
+      a .written ∙ ap (λ x. outputAfter x out) e ∙ sym (b .written),
+      a .shown ∙ ap (λ x. answerAfter (told length x) bytes) e ∙ sym (b .shown),
+    )
+
+pub one-text-to-tree : (text tree tree₁ tree₂ : List ℕ) (bytes bytes₁ bytes₂ r s : ℕ) → TellsTree text tree bytes r tree₁ bytes₁
+    → TellsTree text tree bytes s tree₂ bytes₂ → (r ≡ s) × (tree₁ ≡ tree₂) × (bytes₁ ≡ bytes₂)
+one-text-to-tree text tree =
+    one-conversion (TreeReply text (length tree)) (λ a b g h. one-tree-reply text (length tree) a g ∙ sym (one-tree-reply text (length tree) b h)) tree
+
+pub one-tree-to-text : (tree text text₁ text₂ : List ℕ) (bytes bytes₁ bytes₂ r s : ℕ) → TellsText tree text bytes r text₁ bytes₁
+    → TellsText tree text bytes s text₂ bytes₂ → (r ≡ s) × (text₁ ≡ text₂) × (bytes₁ ≡ bytes₂)
+one-tree-to-text tree text =
+    one-conversion (TextReply tree (length text)) (λ a b g h. one-text-reply tree (length text) a g ∙ sym (one-text-reply tree (length text) b h)) text

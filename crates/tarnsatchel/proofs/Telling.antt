@@ -5,13 +5,14 @@ use mathlib.Core.Path.{_∙_, _≡_, ap, refl, sym}
 use Prim.Native.Nat.{ℕ}
 use lib.ListN.{length}
 use Rattle.paper.specs.declared.Built.{Built}
+use Rattle.paper.specs.declared.Converted.{Converted}
 use Rattle.paper.specs.declared.Counted.{Counted}
 use Rattle.paper.specs.declared.Fixed.{Fixed}
 use Rattle.paper.specs.declared.Member.{Member}
 use Rattle.paper.specs.declared.Projected.{Projected}
 use Rattle.paper.specs.declared.Record.{Record}
 use Rattle.paper.specs.declared.Written.{Written}
-use Rattle.paper.specs.Answers.{saysBuilt, saysCounted, saysFixed, saysMember, saysProjected, saysWritten, told}
+use Rattle.paper.specs.Answers.{saysBuilt, saysConverted, saysCounted, saysFixed, saysMember, saysProjected, saysWritten, told}
 use Rattle.paper.specs.Refusals.{Reply, answer, build, fix, project, refused, rowByNumber}
 use Rattle.paper.specs.Row.{Row}
 use Rattle.building.specs.Face.{Builds}
@@ -20,7 +21,8 @@ use Rattle.member.specs.Face.{Members}
 use Rattle.project.specs.Face.{Projects}
 use Rattle.row.specs.Face.{Numbers}
 use Rattle.sound.specs.Face.{Counts}
-use Rattle.tarnsatchel.specs.Told.{Tells, TellsBuild, TellsCount, TellsFix, TellsMember, TellsProject, TellsRow}
+use Rattle.text.specs.Face.{Converts}
+use Rattle.tarnsatchel.specs.Told.{Tells, TellsBuild, TellsConversion, TellsCount, TellsFix, TellsMember, TellsProject, TellsRow}
 use Rattle.tarnsatchel.specs.Told.{answerAfter, code, headNumbers, headOf, listedNumber}
 
 -- an answer that is told
@@ -46,6 +48,17 @@ tells-build input work table head b r work′ table′ head′ builds tells =
       written = builds .written;
       shown = tells .shown ∙ ap (λ x. answerAfter x head) says;
     }
+
+-- text to tree, and tree to text
+pub tells-conversion : (Right : Reply (List ℕ) → Type 0) (out : List ℕ) (bytes : ℕ) (c : Converted) (r : ℕ) (out′ : List ℕ) (bytes′ : ℕ)
+    → Converts Right out c out′ → Tells (saysConverted c) bytes r bytes′ → TellsConversion Right out bytes r out′ bytes′
+tells-conversion Right out bytes c r out′ bytes′ converts tells = record {
+  reply = converts .reply;
+  right = converts .right;
+  number = tells .number ∙ ap code (converts .answer) ∙ code-told length (converts .reply);
+  written = converts .written;
+  shown = tells .shown ∙ ap (λ x. answerAfter x bytes) (converts .answer);
+}
 
 -- the questions. What is asked is asked of the head that the numbers say
 module _ (head : List ℕ) (table : List Record) (work : List ℕ) where

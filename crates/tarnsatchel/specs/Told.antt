@@ -11,6 +11,7 @@ use Rattle.paper.specs.declared.Record.{Record}
 use Rattle.paper.specs.declared.Set.{Set}
 use Rattle.paper.specs.declared.Set.the-variants.{Empty, Unit, Record as At}
 use Rattle.paper.specs.Answers.{told}
+use Rattle.paper.specs.Conversions.{TreeReply, TextReply}
 use Rattle.paper.specs.Questions.{questionWork}
 use Rattle.paper.specs.Refusals.{Reply, refused, answer, build, count, rowByNumber, member, project, fix}
 use Rattle.paper.specs.Refusals.{workFor, workAfter, tableAfter, outputAfter, targetAfter}
@@ -104,3 +105,17 @@ pub record TellsFix (head : List ℕ) (source : List Record) (work : List ℕ) (
   pub worked : work′ ≡ workAfter (fix (headOf head) source (length work) place n (length target)) (questionWork (headOf head)) work
   pub written : target′ ≡ targetAfter (fix (headOf head) source (length work) place n (length target)) target
   pub shown : fixed′ ≡ answerAfter (told (λ a. headNumbers (a .0)) (fix (headOf head) source (length work) place n (length target))) fixed
+
+-- text to tree, and tree to text: a reply that is the right one, whose bytes stand in the output; `bytes` is how many they are
+pub record TellsConversion (Right : Reply (List ℕ) → Type 0) (out : List ℕ) (bytes : ℕ) (r : ℕ) (out′ : List ℕ) (bytes′ : ℕ) : Type 0 where
+  pub reply : Reply (List ℕ)
+  pub right : Right reply
+  pub number : r ≡ code reply
+  pub written : out′ ≡ outputAfter reply out
+  pub shown : bytes′ ≡ answerAfter (told length reply) bytes
+
+abbrev pub TellsTree : List ℕ → List ℕ → ℕ → ℕ → List ℕ → ℕ → Type 0
+TellsTree text tree bytes r tree′ bytes′ = TellsConversion (TreeReply text (length tree)) tree bytes r tree′ bytes′
+
+abbrev pub TellsText : List ℕ → List ℕ → ℕ → ℕ → List ℕ → ℕ → Type 0
+TellsText tree text bytes r text′ bytes′ = TellsConversion (TextReply tree (length text)) text bytes r text′ bytes′

@@ -2,10 +2,11 @@
 // name; then the head's six numbers read and written; then each answer as a number. Nothing is decided here but how an answer looks
 // from C, so each contract is that of the function below it, told in numbers (specs/Told.antt).
 ghost use mathlib.Core.Path.{_≡_};
-ghost use Rattle.paper.specs.Answers.{told, saysBuilt, saysCounted, saysFixed, saysMember, saysProjected, saysWritten};
+ghost use Rattle.paper.specs.Answers.{told, saysBuilt, saysConverted, saysCounted, saysFixed, saysMember, saysProjected, saysWritten};
 ghost use Rattle.tarnsatchel.specs.Told.{setKind, setRecord, headNumbers, setOf, headOf, code, listedNumber, Tells};
-ghost use Rattle.tarnsatchel.specs.Told.{TellsBuild, TellsCount, TellsRow, TellsMember, TellsProject, TellsFix};
+ghost use Rattle.tarnsatchel.specs.Told.{TellsBuild, TellsCount, TellsRow, TellsMember, TellsProject, TellsFix, TellsText, TellsTree};
 use paper::Built;
+use paper::Converted;
 use paper::Counted;
 use paper::Fixed;
 use paper::Head;
@@ -123,6 +124,24 @@ pub extern "C" fn tarn_fix(
     let h = head_of(head);
     let answer = fix::fix(h, source, work, place, node, target);
     tell_fix(answer, fixed)
+}
+
+// Bracketed text to tree records, into `tree`; `bytes` is how many bytes they have. What is behind them stays.
+#[no_mangle]
+pub extern "C" fn tarn_text_to_tree(text: &[u8], tree: &mut [u8], bytes: &mut usize) -> u8
+    ensures { λ r. ⌜ TellsTree (now (text .entry)) (now (tree .entry)) (now (bytes .entry)) r (now (tree .exit)) (now (bytes .exit)) ⌝ }
+{
+    let converted = text::text_to_tree(text, &mut *tree);
+    tell_conversion(converted, &mut *bytes)
+}
+
+// Tree records to the canonical text, into `text`; as above.
+#[no_mangle]
+pub extern "C" fn tarn_tree_to_text(tree: &[u8], text: &mut [u8], bytes: &mut usize) -> u8
+    ensures { λ r. ⌜ TellsText (now (tree .entry)) (now (text .entry)) (now (bytes .entry)) r (now (text .exit)) (now (bytes .exit)) ⌝ }
+{
+    let converted = text::tree_to_text(tree, &mut *text);
+    tell_conversion(converted, &mut *bytes)
 }
 
 // The head of six numbers, whatever they are: nodes, arity, open places, records used, the kind of the set, its record.
@@ -260,6 +279,19 @@ fn tell_fix(answer: Fixed, fixed: &mut [u16; HEAD_NUMBERS]) -> u8
         Fixed::Refused(r) => r.number(),
         Fixed::Set(h) => {
             *fixed = numbers_of(h);
+            0
+        }
+    }
+}
+
+// No result is empty, but the number of its bytes is told all the same in a parameter of its own.
+fn tell_conversion(converted: Converted, bytes: &mut usize) -> u8
+    ensures { λ n. ⌜ Tells (saysConverted converted) (now (bytes .entry)) n (now (bytes .exit)) ⌝ }
+{
+    match converted {
+        Converted::Refused(r) => r.number(),
+        Converted::Bytes(n) => {
+            *bytes = n;
             0
         }
     }
