@@ -12,7 +12,7 @@ use lib.Seq.{drop-at, drop-cons, drop-nil, getD-set-same, length-take-le, set-sp
 use Rattle.paper.specs.BracketedText.{number, opening, closing}
 use Rattle.writings.specs.ReadText.{outside, inNumber}
 use Rattle.text.specs.Pass.{Kept, isFull, withNumber, withOpening, withClosing, faulty, going, step, State, reading, refused, within, padIf, opened, closed, outer, siblingsEnded}
-use Rattle.text.specs.Reading.{Reading, Written, keptIn, modeIn, stateIn, Room, one, stopped, Adds, Ended, Leaves, Closes, numberEnded, EndsNumber}
+use Rattle.text.specs.Reading.{Reading, Written, mayIn, keptIn, modeIn, stateIn, Room, one, stopped, Adds, Ended, Leaves, Closes, numberEnded, EndsNumber}
 use Rattle.text.proofs.SiblingsEnd.{pad-length}
 
 -- ---- the labels
@@ -87,9 +87,9 @@ module _ (s : Reading) (labels image : List ℕ) where
     pub label-waits : false ≡ full → 1 ≤ s .first
     label-waits e = omega (arith, few-nodes e, room .waited)
 
-    pub number-waits : s .mode < 64 → false ≡ full → (bytes : ℕ) (image′ : List ℕ) → Adds (padIf (s .may)) (s .bytes) image bytes image′
+    pub number-waits : s .mode < 64 → false ≡ full → (bytes : ℕ) (image′ : List ℕ) → Adds (padIf (mayIn s)) (s .bytes) image bytes image′
         → EndsNumber s labels image
-        (record { mode = 64; depth = s .depth; nodes = s .nodes + 1; first = s .first - 1; bytes = bytes; may = true })
+        (record { mode = 64; depth = s .depth; nodes = s .nodes + 1; first = s .first - 1; bytes = bytes; may = 1 })
         (set labels (s .first - 1) (s .mode)) image′
     number-waits low e bytes image′ g = record { leaves = record { state = sym (ended-number low false (sym e) ∙ kept); room = waiting }; between = omega arith }
       where
@@ -115,7 +115,7 @@ module _ (s : Reading) (labels image : List ℕ) where
             (record { may = true; depth = s .depth; nodes = s .nodes + 1; waiting = sym waits i; image = sym (g .stands) i })
 
         waiting : Room
-            (record { mode = 64; depth = s .depth; nodes = s .nodes + 1; first = s .first - 1; bytes = bytes; may = true })
+            (record { mode = 64; depth = s .depth; nodes = s .nodes + 1; first = s .first - 1; bytes = bytes; may = 1 })
             (set labels (s .first - 1) (s .mode)) image′
         waiting = record {
           labels-long = length-set labels (s .first - 1) (s .mode) ∙ room .labels-long;
@@ -124,7 +124,7 @@ module _ (s : Reading) (labels image : List ℕ) where
           few = omega (arith, few-nodes e);
           waiting = omega (arith, room .waiting);
           waited = omega (arith, room .waited, label-waits e);
-          room = omega (arith, room .room, g .ends, pad-length (s .may), label-waits e);
+          room = omega (arith, room .room, g .ends, pad-length (mayIn s), label-waits e);
           before = λ _. (
             omega (arith, room .waiting, label-waits e),
             subst (λ x. x < 64) (sym (getD-set-same labels (s .first - 1) (s .mode) 0 inside)) low,
@@ -149,17 +149,17 @@ module _ (s : Reading) (labels image : List ℕ) where
         go m = by (eqb (s .mode) 64) refl m
 
     -- ---- brackets
-    pub opening-stops : s .may ≡ false → (r : Reading) → r ≡ stopped s → Leaves (within outside (step (keptIn s labels image) opening)) r labels image
+    pub opening-stops : mayIn s ≡ false → (r : Reading) → r ≡ stopped s → Leaves (within outside (step (keptIn s labels image) opening)) r labels image
     opening-stops h =
         leaves-stopped (within outside (step (keptIn s labels image) opening))
         (ap (λ x. within outside (cond x (going (withOpening (keptIn s labels image))) faulty)) h)
 
-    pub label-inside : s .may ≡ true → s .first < length labels
+    pub label-inside : mayIn s ≡ true → s .first < length labels
     label-inside h = omega (arith, room .before h .0, room .labels-long)
 
-    pub opening-opens : s .mode ≡ 64 → s .may ≡ true
+    pub opening-opens : s .mode ≡ 64 → mayIn s ≡ true
         → Leaves (within outside (step (keptIn s labels image) opening))
-        (record { mode = s .mode; depth = s .depth + 1; nodes = s .nodes; first = s .first; bytes = s .bytes; may = false })
+        (record { mode = s .mode; depth = s .depth + 1; nodes = s .nodes; first = s .first; bytes = s .bytes; may = 0 })
         (set labels (s .first) (getD labels (s .first) 0 + 64)) image
     opening-opens m h = record {
       state =
@@ -173,7 +173,7 @@ module _ (s : Reading) (labels image : List ℕ) where
         few = room .few;
         waiting = room .waiting;
         waited = room .waited;
-        room = let one-more : one (s .may) ≡ 1 = ap one h in omega (arith, room .room);
+        room = let one-more : one (mayIn s) ≡ 1 = ap one h in omega (arith, room .room);
         before = λ e. absurd (false≢true e);
       };
     }
@@ -200,7 +200,7 @@ module _ (s : Reading) (labels image : List ℕ) where
     pub closing-closes : s .mode ≡ 64 → (s .depth ≡ 0 → ⊥) → (r : Written) (labels′ image′ : List ℕ) → Ended s labels image r image′
         → Closes labels (r .first) labels′
         → Leaves (within outside (step (keptIn s labels image) closing))
-        (record { mode = s .mode; depth = s .depth - 1; nodes = s .nodes; first = r .first; bytes = r .bytes; may = false }) labels′ image′
+        (record { mode = s .mode; depth = s .depth - 1; nodes = s .nodes; first = r .first; bytes = r .bytes; may = 0 }) labels′ image′
     closing-closes m deep r labels′ image′ g c = record {
       state =
           ap (λ x. cond (eqb x 65) refused (reading (modeIn x) held)) m

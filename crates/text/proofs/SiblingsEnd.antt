@@ -6,7 +6,7 @@ use Prim.Native.Nat.{ℕ, _+_, _*_, _≤_}
 use native.Mathlib.Omega.{arith}
 use lib.ListN.{length, drop, length-drop}
 use Rattle.text.specs.Pass.{branches, inner, padIf}
-use Rattle.text.specs.Reading.{Reading, Written, Room, Adds, Branches, Ended, one}
+use Rattle.text.specs.Reading.{Reading, Written, mayIn, Room, Adds, Branches, Ended, one}
 use Rattle.text.proofs.Growing.{adds-both}
 
 pub pad-length : (may : Bool) → length (padIf may) ≡ 2 * one may
@@ -17,9 +17,9 @@ module _ (s : Reading) (labels image : List ℕ) (room : Room s labels image) wh
   pub pad-fits : s .bytes + 2 ≤ length image
   pad-fits = omega (arith, room .room, room .few, room .waiting, room .image-long)
 
-  module _ (child : ℕ) (image′ : List ℕ) (g : Adds (padIf (s .may)) (s .bytes) image child image′) where
+  module _ (child : ℕ) (image′ : List ℕ) (g : Adds (padIf (mayIn s)) (s .bytes) image child image′) where
     pub sibling-fits : child + 2 ≤ length image′
-    sibling-fits = omega (arith, room .room, room .few, room .waiting, room .image-long, g .ends, g .long, pad-length (s .may))
+    sibling-fits = omega (arith, room .room, room .few, room .waiting, room .image-long, g .ends, g .long, pad-length (mayIn s))
 
     module _ (sibling : ℕ) (image″ : List ℕ) (h : Adds (1 ∷ 0 ∷ []) child image′ sibling image″) where
       pub branches-fit : (s .first ≤ length labels) × (sibling + 2 * length (drop (s .first) labels) ≤ length image″)
@@ -36,7 +36,7 @@ module _ (s : Reading) (labels image : List ℕ) (room : Room s labels image) wh
           g .long,
           h .ends,
           h .long,
-          pad-length (s .may),
+          pad-length (mayIn s),
           length-drop (s .first) labels,
         ),
       )
@@ -44,7 +44,7 @@ module _ (s : Reading) (labels image : List ℕ) (room : Room s labels image) wh
       pub siblings-end : (r : Written) (image‴ : List ℕ) → Branches labels (s .first) image″ sibling r image‴ → Ended s labels image r image‴
       siblings-end r image‴ b =
           let all =
-          adds-both (padIf (s .may)) (1 ∷ 0 ∷ branches (inner (drop (s .first) labels))) (s .bytes) image child image′ (r .bytes) image‴ g
+          adds-both (padIf (mayIn s)) (1 ∷ 0 ∷ branches (inner (drop (s .first) labels))) (s .bytes) image child image′ (r .bytes) image‴ g
           (adds-both (1 ∷ 0 ∷ []) (branches (inner (drop (s .first) labels))) child image′ sibling image″ (r .bytes) image‴ h (b .added))
           in
           record {
@@ -54,5 +54,5 @@ module _ (s : Reading) (labels image : List ℕ) (room : Room s labels image) wh
             marked = b .marked;
             onward = b .onward;
             inside = b .inside;
-            counted = omega (arith, b .counted, g .ends, h .ends, pad-length (s .may));
+            counted = omega (arith, b .counted, g .ends, h .ends, pad-length (mayIn s));
           }

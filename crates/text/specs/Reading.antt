@@ -13,9 +13,13 @@ pub use Rattle.text.specs.declared.reading.Reading.{Reading}
 pub use Rattle.text.specs.declared.records.Written.{Written}
 
 -- ---- what is held
+-- a number stands just before
+abbrev pub mayIn : Reading → Bool
+mayIn s = eqb (s .may) 1
+
 abbrev pub keptIn : Reading → List ℕ → List ℕ → Kept
 keptIn s labels image = record {
-  may = s .may;
+  may = mayIn s;
   depth = s .depth;
   nodes = s .nodes;
   waiting = drop (s .first) labels;
@@ -42,12 +46,12 @@ pub record Room (s : Reading) (labels image : List ℕ) : Type 0 where
   pub few : s .nodes ≤ 2047
   pub waiting : s .first ≤ 2047
   pub waited : 2047 ≤ s .nodes + s .first
-  pub room : s .bytes + 2 * one (s .may) + 2 * s .depth + 4094 ≡ 4 * s .nodes + 2 * s .first
-  pub before : s .may ≡ true → (s .first < 2047) × (getD labels (s .first) 0 < 64)
+  pub room : s .bytes + 2 * one (mayIn s) + 2 * s .depth + 4094 ≡ 4 * s .nodes + 2 * s .first
+  pub before : mayIn s ≡ true → (s .first < 2047) × (getD labels (s .first) 0 < 64)
 
 -- before the first byte, and after a fault
 abbrev pub start : Reading
-start = record { mode = 64; depth = 0; nodes = 0; first = 2047; bytes = 0; may = false }
+start = record { mode = 64; depth = 0; nodes = 0; first = 2047; bytes = 0; may = 0 }
 
 abbrev pub stopped : Reading → Reading
 stopped s = record { mode = 65; depth = s .depth; nodes = s .nodes; first = s .first; bytes = s .bytes; may = s .may }
@@ -76,7 +80,7 @@ pub record Ended (s : Reading) (labels image : List ℕ) (r : Written) (image′
   pub marked : r .first < length labels → 64 ≤ getD labels (r .first) 0
   pub onward : s .first ≤ r .first
   pub inside : r .first ≤ length labels
-  pub counted : r .bytes + 2 * s .first ≡ s .bytes + 2 * one (s .may) + 2 + 2 * r .first
+  pub counted : r .bytes + 2 * s .first ≡ s .bytes + 2 * one (mayIn s) + 2 + 2 * r .first
 
 -- ---- tokens and bytes
 -- the first label that waits has its brackets closed

@@ -11,16 +11,21 @@ pub(crate) const OUTSIDE: usize = HIGHEST_LABEL as usize + 1;
 
 pub(crate) const REFUSED: usize = OUTSIDE + 1;
 
+// What `may` is.
+pub(crate) const YES: usize = 1;
+
+pub(crate) const NO: usize = 0;
+
 // Beside it the pass is lent two buffers. The labels that wait for their branches stand at the end of the first, the last read before
 // the others, from `first` on; the image has so many `bytes` of the second by now. `may` is that a number stands just before, which
-// may have brackets. The numbers are as wide as a register: the fewer gaps between fields, the more of it the compiler keeps there.
+// may have brackets. It is a number, as wide as the others: a gap behind it would be copied through memory with every byte of the text.
 pub(crate) struct Reading {
     pub(crate) mode: usize,
     pub(crate) depth: usize,
     pub(crate) nodes: usize,
     pub(crate) first: usize,
     pub(crate) bytes: usize,
-    pub(crate) may: bool,
+    pub(crate) may: usize,
 }
 
 // Before the first byte: no label waits, so the first is behind the end.
@@ -33,7 +38,7 @@ pub(crate) fn begin() -> Reading
         nodes: 0,
         first: MOST_WRITTEN_NODES,
         bytes: 0,
-        may: false,
+        may: NO,
     }
 }
 

@@ -5,6 +5,7 @@ ghost use lib.ListN.{length, drop};
 ghost use Rattle.text.specs.Pass.{padIf};
 ghost use Rattle.text.specs.Reading.{Adds, Branches, Ended, Room};
 use crate::reading::Reading;
+use crate::reading::YES;
 use paper::kinds::BRANCH;
 use paper::kinds::LEAF;
 use paper::limits::HIGHEST_LABEL;
@@ -64,7 +65,7 @@ pub(crate) fn end_siblings(s: Reading, labels: &[u8], image: &mut [u8]) -> Writt
     requires { ⌜ Room s (now labels) (now image) ⌝ }
     ensures { λ r. ⌜ Ended s (now (labels .entry)) (now (image .entry)) r (now (image .exit)) ⌝ }
 {
-    let child = put_pad_if(s.may, &mut *image, s.bytes);
+    let child = put_pad_if(s.may == YES, &mut *image, s.bytes);
     let sibling = put_record(&mut *image, child, LEAF, PAD_LABEL);
     put_branches(labels, s.first, &mut *image, sibling)
 }

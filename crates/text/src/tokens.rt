@@ -8,8 +8,10 @@ ghost use Rattle.paper.specs.BracketedText.{closing, opening};
 ghost use Rattle.writings.specs.ReadText.{outside};
 ghost use Rattle.text.specs.Pass.{isFull, step, within};
 ghost use Rattle.text.specs.Reading.{Closes, EndsNumber, Leaves, Room, keptIn};
+use crate::reading::NO;
 use crate::reading::OUTSIDE;
 use crate::reading::Reading;
+use crate::reading::YES;
 use crate::reading::stop;
 use crate::records::OPEN;
 use crate::records::end_siblings;
@@ -39,14 +41,14 @@ fn put_number(s: Reading, labels: &mut [u8], image: &mut [u8]) -> Reading
     }
     let first = s.first - 1;
     labels[first] = s.mode as u8;
-    let bytes = put_pad_if(s.may, &mut *image, s.bytes);
+    let bytes = put_pad_if(s.may == YES, &mut *image, s.bytes);
     Reading {
         mode: OUTSIDE,
         depth: s.depth,
         nodes: s.nodes + 1,
         first: first,
         bytes: bytes,
-        may: true,
+        may: YES,
     }
 }
 
@@ -66,14 +68,14 @@ pub(crate) fn open_brackets(s: Reading, labels: &mut [u8], image: &[u8]) -> Read
     requires { ⌜ (s .mode ≡ 64) × Room s (now labels) (now image) ⌝ }
     ensures { λ r. ⌜ Leaves (within outside (step (keptIn s (now (labels .entry)) (now (image .entry))) opening)) r (now (labels .exit)) (now (image .entry)) ⌝ }
 {
-    if !s.may {
+    if s.may != YES {
         return stop(s);
     }
     let first = s.first;
     labels[first] = labels[first] + OPEN;
     let mut t = s;
     t.depth = s.depth + 1;
-    t.may = false;
+    t.may = NO;
     t
 }
 
@@ -103,6 +105,6 @@ pub(crate) fn close_brackets(s: Reading, labels: &mut [u8], image: &mut [u8]) ->
         nodes: s.nodes,
         first: ended.first,
         bytes: ended.bytes,
-        may: false,
+        may: NO,
     }
 }

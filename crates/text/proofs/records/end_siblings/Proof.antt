@@ -10,20 +10,20 @@ use Rattle.text.proofs.records.put_record.Reads as put-record-reads
 
 -- src/image.rt:67:9
 put-pad-if-requires : tie.Need-put-pad-if-requires
-put-pad-if-requires c κs = pad-fits _ _ _ (c .before .before .before .pre)
+put-pad-if-requires c κs = pad-fits _ _ _ (c .before .before .before .before .pre)
 
 -- src/image.rt:68:9
 put-record-requires : tie.Need-put-record-requires
 put-record-requires c κs =
     let k = c .before .before .before in
-    sibling-fits _ _ _ (k .before .before .before .before .pre) _ _ (k .put-pad-if .ensures)
+    sibling-fits _ _ _ (k .before .before .before .before .before .pre) _ _ (k .put-pad-if .ensures)
 
 -- src/image.rt:69:5
 put-branches-requires : tie.Need-put-branches-requires
 put-branches-requires c κs =
     let j = c .before .before .before in
     let k = j .before .before .before .before in
-    branches-fit _ _ _ (k .before .before .before .before .pre) _ _ (k .put-pad-if .ensures) _ _ (j .put-record .ensures)
+    branches-fit _ _ _ (k .before .before .before .before .before .pre) _ _ (k .put-pad-if .ensures) _ _ (j .put-record .ensures)
 
 -- src/image.rt:63:1
 same-length : tie.Need-same-length
@@ -35,7 +35,7 @@ returns c =
     let i = c .before .before in
     let j = i .before .before .before .before in
     let k = j .before .before .before .before in
-    siblings-end _ _ _ (k .before .before .before .before .pre) _ _ (k .put-pad-if .ensures) _ _ (j .put-record .ensures) _ _ (i .put-branches .ensures)
+    siblings-end _ _ _ (k .before .before .before .before .before .pre) _ _ (k .put-pad-if .ensures) _ _ (j .put-record .ensures) _ _ (i .put-branches .ensures)
 
 pub end-siblings-spec : {M : Type 1} → statement M
 end-siblings-spec =

@@ -43,8 +43,8 @@ put-pad-if-requires : tie.Need-put-pad-if-requires
 put-pad-if-requires c κs = search needs
 
 -- src/tokens.rt:39:16
-add-t11 : tie.Need-add-t11
-add-t11 c = search needs
+add-t12 : tie.Need-add-t12
+add-t12 c = search needs
 
 -- src/tokens.rt:26:1
 same-length : tie.Need-same-length
@@ -58,7 +58,7 @@ same-length-2 c = search needs
 returns-2 : tie.Need-returns-2
 returns-2 c =
     let p = c .before .before .before in
-    let e = p .before .before .before .before in
+    let e = p .before .before .before .before .before in
     let k = e .before in
     let start = k .before .before .before in
     number-waits _ _ _ (start .pre .1) (start .pre .0) (sym (e .if1 .left) ∙ k .is-full .ensures) _ _ (p .put-pad-if .ensures)
@@ -74,7 +74,7 @@ put-number-spec =
     cast-labels
     slice-write-labels
     put-pad-if-requires
-    add-t11
+    add-t12
     same-length
     same-length-2
     returns-2)
