@@ -12,6 +12,8 @@ pub enum Function {
     Member,
     Project,
     Fix,
+    TextToTree,
+    TreeToText,
 }
 
 #[derive(Clone, Debug, PartialEq)]

@@ -1,5 +1,6 @@
 //! Damages streams: a byte changed, cut, dropped or put in, and the same with whole records.
 
+use crate::byte_damage::{self, ByteDamage};
 use crate::random::Random;
 use crate::streams::{Stream, ACCEPTING, BRANCH, BRANCH_RULE, HEAD, LEAF, LEAF_RULE};
 
@@ -12,34 +13,26 @@ fn any_byte(random: &mut Random) -> u8 {
     }
 }
 
-pub fn byte_changed(random: &mut Random, stream: &Stream) -> Vec<u8> {
+fn bytes_damaged(random: &mut Random, stream: &Stream, damage: ByteDamage) -> Vec<u8> {
     let mut bytes = stream.bytes();
-    let at = random.below(bytes.len());
-    bytes[at] = match random.below(3) {
-        0 => bytes[at].wrapping_add(1),
-        1 => bytes[at].wrapping_sub(1),
-        _ => any_byte(random),
-    };
+    damage(random, &mut bytes, any_byte);
     bytes
+}
+
+pub fn byte_changed(random: &mut Random, stream: &Stream) -> Vec<u8> {
+    bytes_damaged(random, stream, byte_damage::changed)
 }
 
 pub fn cut(random: &mut Random, stream: &Stream) -> Vec<u8> {
-    let mut bytes = stream.bytes();
-    bytes.truncate(random.below(bytes.len()));
-    bytes
+    bytes_damaged(random, stream, byte_damage::cut)
 }
 
 pub fn byte_dropped(random: &mut Random, stream: &Stream) -> Vec<u8> {
-    let mut bytes = stream.bytes();
-    bytes.remove(random.below(bytes.len()));
-    bytes
+    bytes_damaged(random, stream, byte_damage::dropped)
 }
 
 pub fn byte_put_in(random: &mut Random, stream: &Stream) -> Vec<u8> {
-    let mut bytes = stream.bytes();
-    let byte = any_byte(random);
-    bytes.insert(random.between(0, bytes.len()), byte);
-    bytes
+    bytes_damaged(random, stream, byte_damage::put_in)
 }
 
 /// A record dropped, said again, said again with another last number, or exchanged with another.

@@ -1,4 +1,4 @@
-//! Runs the listing program on an input.
+//! Runs one of the library's programs on an input.
 
 use crate::verdict::{same, Verdict};
 use std::io::{self, ErrorKind, Write};
@@ -22,7 +22,7 @@ impl Program {
         let mut command = Command::new(&self.command[0]);
         command.args(&self.command[1..]).stdin(Stdio::piped()).stdout(Stdio::piped()).stderr(Stdio::piped());
         let mut program = command.spawn()?;
-        // no deadlock: a pipe holds more than the longest input
+        // no deadlock: a program has read all that it wants before it writes, and what it does not want a pipe holds, or it has ended
         let mut pipe = program.stdin.take().expect("its input");
         for piece in input.chunks(piece) {
             match pipe.write_all(piece) {

@@ -3,25 +3,43 @@
 use crate::asked::QuestionTrial;
 use crate::cases::Case;
 use crate::check::Seen;
+use crate::conversion::Conversion;
 use crate::listed::Told;
 use crate::listings::{Listing, BUFFER};
+use crate::typed::Typed;
 use crate::verdict::{same, Verdict};
 
 const MOST_PRINTED: usize = 20;
 const LONGEST_PRINTED: usize = 160;
 
-/// Refusals in the order in which a build, the program and a question give them.
+/// Refusals in the order in which a build, the listing program, a question, a conversion and the program `tree` give them.
 const OF_BUILD: [usize; 6] = [1, 2, 3, 4, 5, 6];
 const OF_PROGRAM: [usize; 7] = [14, 1, 2, 3, 4, 5, 6];
 const OF_QUESTION: [usize; 9] = [5, 11, 13, 7, 8, 9, 10, 6, 12];
+const OF_CONVERSION: [usize; 2] = [15, 10];
+const OF_TYPED: [usize; 2] = [14, 15];
+
+/// One more than the highest refusal.
+const ANSWERS: usize = 16;
 
 #[derive(Clone, Copy, PartialEq)]
-enum What {
+pub enum What {
     Streams,
     Listings,
     Questions,
+    Texts,
+    Images,
+    /// What is written from a text or an image, converted back.
+    RoundTrips,
+    Typed,
     Own,
 }
+
+/// A title, and what stands under it.
+type Column = (&'static str, fn(&Kind) -> usize);
+
+const LISTED: &[Column] = &[("listed", |kind| kind.listed), ("rows", |kind| kind.rows)];
+const BYTES: &[Column] = &[("bytes", |kind| kind.entries)];
 
 /// Of one kind of case.
 struct Kind {
@@ -29,8 +47,8 @@ struct Kind {
     what: What,
     passed: usize,
     failed: usize,
-    /// By answer: answered, then refused 1 to 14.
-    answers: [usize; 15],
+    /// By answer: answered, then by refusal.
+    answers: [usize; ANSWERS],
     /// Answered ones held to a plain list of rows; for a stream the list is that of all markings.
     listed: usize,
     rows: usize,
@@ -53,7 +71,7 @@ impl Tally {
     /// Kinds stand in the order in which they come.
     fn kind(&mut self, name: &'static str, what: What) -> &mut Kind {
         let at = self.kinds.iter().position(|kind| kind.name == name && kind.what == what).unwrap_or_else(|| {
-            let (answers, listed, rows, records, entries, long, empty) = ([0; 15], 0, 0, 0, 0, 0, 0);
+            let (answers, listed, rows, records, entries, long, empty) = ([0; ANSWERS], 0, 0, 0, 0, 0, 0);
             self.kinds.push(Kind { name, what, passed: 0, failed: 0, answers, listed, rows, records, entries, long, empty });
             self.kinds.len() - 1
         });
@@ -129,6 +147,32 @@ impl Tally {
         self.judge(trial.kind, What::Questions, &format!("group {} question {}", trial.group, trial.number), &rest, verdict);
     }
 
+    pub fn conversion(&mut self, what: What, case: &Conversion, number: usize, answer: u8, verdict: Verdict) {
+        let kind = self.kind(case.kind, what);
+        kind.answers[answer as usize] += 1;
+        kind.entries += case.call().entries();
+        let rest = format!(" (into {} bytes: {})", case.output.len(), words(case.input.iter()));
+        self.judge(case.kind, what, &format!("{} {number}", what.word()), &rest, verdict);
+    }
+
+    pub fn typed(&mut self, case: &Typed, number: usize, answer: u8, bytes: usize, verdict: Verdict) {
+        let kind = self.kind(case.kind, What::Typed);
+        kind.answers[answer as usize] += 1;
+        kind.entries += bytes;
+        let rest = format!(" ({} bytes in pieces of {}: {})", case.input.len(), case.piece, words(case.input.iter()));
+        self.judge(case.kind, What::Typed, &format!("typed {number}"), &rest, verdict);
+    }
+
+    /// Many of them, some answered, and with every refusal that they can get.
+    pub fn are_enough(&mut self, name: &'static str, what: What, fewest: usize) {
+        let refusals = if what == What::Typed { OF_TYPED } else { OF_CONVERSION };
+        let missing: Vec<usize> =
+            [0].into_iter().chain(refusals).filter(|&answer| self.sum(what, |kind| kind.answers[answer]) == 0).collect();
+        let many = self.sum(what, Kind::cases) >= fewest;
+        self.own(name, "answers", same("answers not met", missing, vec![]));
+        self.own(name, "number", same("enough", many, true));
+    }
+
     pub fn failed(&self) -> usize {
         self.kinds.iter().map(|kind| kind.failed).sum()
     }
@@ -138,10 +182,14 @@ impl Tally {
     }
 
     pub fn print(&self, with_driver: bool) {
-        self.print_kinds(What::Own, "checks", &[]);
-        self.print_kinds(What::Streams, "streams", &OF_BUILD);
-        self.print_kinds(What::Listings, "listings", &OF_PROGRAM);
-        self.print_kinds(What::Questions, "questions", &OF_QUESTION);
+        self.print_kinds(What::Own, "checks", &[], &[]);
+        self.print_kinds(What::Streams, "streams", &OF_BUILD, LISTED);
+        self.print_kinds(What::Listings, "listings", &OF_PROGRAM, LISTED);
+        self.print_kinds(What::Questions, "questions", &OF_QUESTION, LISTED);
+        self.print_kinds(What::Texts, "texts", &OF_CONVERSION, BYTES);
+        self.print_kinds(What::Images, "images", &OF_CONVERSION, BYTES);
+        self.print_kinds(What::RoundTrips, "there and back", &OF_CONVERSION, BYTES);
+        self.print_kinds(What::Typed, "typed texts", &OF_TYPED, BYTES);
         let streams = format!("with {} records", self.sum(What::Streams, |kind| kind.records));
         println!("{}", self.summary(What::Streams, "streams", &streams));
         let listings = |of: fn(&Kind) -> usize| self.sum(What::Listings, of);
@@ -155,11 +203,23 @@ impl Tally {
         let [counts, rows, members, projections, fixings] = self.asked;
         let asked = format!("{counts} counts, {rows} rows, {members} members, {projections} projections, {fixings} fixings");
         println!("{}", self.summary(What::Questions, "questions", &asked));
+        for (what, name) in [
+            (What::Texts, "texts to trees"),
+            (What::Images, "images to texts"),
+            (What::RoundTrips, "converted back"),
+            (What::Typed, "texts through the program tree"),
+        ] {
+            let (cases, answered) = (self.sum(what, Kind::cases), self.sum(what, |kind| kind.answers[0]));
+            println!("{cases} {name}, {answered} answered");
+        }
         if with_driver {
-            let entries = self.sum(What::Streams, |kind| kind.entries) + self.sum(What::Questions, |kind| kind.entries);
-            println!("the library compared in all, {entries} entries of its buffers, and the program in every listing");
+            let called = [What::Streams, What::Questions, What::Texts, What::Images, What::RoundTrips];
+            let entries: usize = called.map(|what| self.sum(what, |kind| kind.entries)).iter().sum();
+            println!(
+                "the library compared in all, {entries} entries of its buffers, and the programs in every listing and typed text"
+            );
         } else {
-            println!("no driver: the two programs compared with each other, and no library and no listing program");
+            println!("no driver: the independent programs compared with each other, and no library and no program");
         }
         let passed: usize = self.kinds.iter().map(|kind| kind.passed).sum();
         println!("{passed} passed, {} failed", self.failed());
@@ -173,15 +233,27 @@ impl Tally {
         format!("{cases} {name}, {answered} answered, {more}; {listed} held to a list of rows, {rows} rows")
     }
 
-    fn print_kinds(&self, what: What, title: &str, refusals: &[usize]) {
+    fn print_kinds(&self, what: What, title: &str, refusals: &[usize], columns: &[Column]) {
         let numbers: String = refusals.iter().map(|number| format!("{number:>6}")).collect();
-        let more =
-            if refusals.is_empty() { String::new() } else { format!("{:>9}{numbers}{:>9}{:>9}", "answered", "listed", "rows") };
+        let titles: String = columns.iter().map(|(title, _)| format!("{title:>9}")).collect();
+        let more = if refusals.is_empty() { String::new() } else { format!("{:>9}{numbers}{titles}", "answered") };
         println!("{title:<44}{:>7}{more}", "cases");
         for kind in self.kinds.iter().filter(|kind| kind.what == what) {
             let refused: String = refusals.iter().map(|&number| format!("{:>6}", kind.answers[number])).collect();
-            let line = format!("{:>9}{refused}{:>9}{:>9}", kind.answers[0], kind.listed, kind.rows);
+            let values: String = columns.iter().map(|(_, of)| format!("{:>9}", of(kind))).collect();
+            let line = format!("{:>9}{refused}{values}", kind.answers[0]);
             println!("{:<44}{:>7}{}", kind.name, kind.cases(), if refusals.is_empty() { "" } else { &line });
+        }
+    }
+}
+
+impl What {
+    /// Before a conversion's number.
+    fn word(self) -> &'static str {
+        match self {
+            What::Texts => "text",
+            What::Images => "image",
+            _ => "back from",
         }
     }
 }

@@ -20,7 +20,7 @@
 #include <sys/mman.h>
 #include <unistd.h>
 
-enum { BUILD = 1, COUNT, ROW, MEMBER, PROJECT, FIX, FUNCTIONS };
+enum { BUILD = 1, COUNT, ROW, MEMBER, PROJECT, FIX, TEXT_TO_TREE, TREE_TO_TEXT, FUNCTIONS };
 enum { BYTE = sizeof(uint8_t), SHORT = sizeof(uint16_t), NUMBER = sizeof(uint64_t), RECORD = sizeof(tarn_record) };
 enum { MOST_BUFFERS = 5, ROOM = 1 << 23, FORBIDDEN = 1 << 20, MOST_SECONDS = 10 };
 
@@ -32,7 +32,11 @@ static const size_t entry_sizes[FUNCTIONS][MOST_BUFFERS] = {
     [MEMBER] = {SHORT, RECORD, NUMBER, SHORT, BYTE},
     [PROJECT] = {SHORT, RECORD, NUMBER, BYTE},
     [FIX] = {SHORT, RECORD, NUMBER, RECORD, SHORT},
+    [TEXT_TO_TREE] = {BYTE, BYTE, NUMBER},
+    [TREE_TO_TEXT] = {BYTE, BYTE, NUMBER},
 };
+/* how many bytes were written is lent as one NUMBER */
+_Static_assert(sizeof(size_t) == NUMBER, "a size has 64 bits");
 
 typedef struct {
     void *at;
@@ -108,8 +112,12 @@ static uint8_t call(int function, const buffer *b, const uint64_t *number) {
         return tarn_member(b[0].at, LENT(1), LENT(2), LENT(3), b[4].at);
     case PROJECT:
         return tarn_project(b[0].at, LENT(1), LENT(2), (uint16_t)number[0], LENT(3));
-    default:
+    case FIX:
         return tarn_fix(b[0].at, LENT(1), LENT(2), (uint16_t)number[0], (uint16_t)number[1], LENT(3), b[4].at);
+    case TEXT_TO_TREE:
+        return tarn_text_to_tree(LENT(0), LENT(1), b[2].at);
+    default:
+        return tarn_tree_to_text(LENT(0), LENT(1), b[2].at);
     }
 }
 

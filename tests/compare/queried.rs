@@ -1,0 +1,27 @@
+//! The image of a text with a query behind it, for a build: it is read as a tree, so that refusals 1 and 2 never come.
+
+use crate::cases::{lend, Case, Room, LONGEST_TABLE};
+use crate::random::Random;
+use crate::streams::{places_seen, Labels, BRANCH, MOST_RULES};
+use crate::verdict::{same, Verdict};
+
+pub const KIND: &str = "images of texts, with a query";
+
+/// Pads and the labels that were written, at all places of one row or two.
+pub fn case(random: &mut Random, image: &[u8]) -> Case {
+    let mut labels: Vec<u8> = image.chunks(2).filter(|record| record[0] == BRANCH).map(|record| record[1]).collect();
+    labels.sort();
+    labels.dedup();
+    // with arity 2 a label of a branch has 16 rules, and the pad 4
+    let arity = if 16 * labels.len() + 4 <= MOST_RULES { random.between(1, 2) } else { 1 };
+    let query = places_seen(arity, 1 << arity, &Labels { leaf: vec![0], branch: labels }, random.chance(70));
+    let input = [image, &query.shuffled(random).concat()].concat();
+    lend(random, KIND, input, Room::Enough, LONGEST_TABLE)
+}
+
+/// By `records` and by `markings`, to which the library's build is held in all: nothing is wrong with the tree, nor with the query, and
+/// of so many bytes every two are a node.
+pub fn check(case: &Case, image: &[u8]) -> Verdict {
+    same("refused by records", records::needs(&case.input).err(), None)?;
+    same("nodes by markings", markings::read(&case.input).map(|stream| stream.nodes()), Ok(image.len() / 2))
+}
