@@ -7,13 +7,19 @@ use crate::verdict::{same, Verdict};
 
 pub const KIND: &str = "images of texts, with a query";
 
-/// Pads and the labels that were written, at all places of one row or two.
+/// With arity 2 a branch's label has 16 rules and the pad has 4: for more labels there are not enough.
+const MOST_LABELS: usize = (MOST_RULES - 4) / 16;
+
+/// A larger tree with arity 1 has few markings, each of which would take long to try.
+const MOST_BYTES: usize = 200;
+
+/// Every row of pads and of nodes that were written is accepted, or every row of pads; but for a tree with too many labels.
 pub fn case(random: &mut Random, image: &[u8]) -> Case {
     let mut labels: Vec<u8> = image.chunks(2).filter(|record| record[0] == BRANCH).map(|record| record[1]).collect();
     labels.sort();
     labels.dedup();
-    // with arity 2 a label of a branch has 16 rules, and the pad 4
-    let arity = if 16 * labels.len() + 4 <= MOST_RULES { random.between(1, 2) } else { 1 };
+    labels.truncate(MOST_LABELS);
+    let arity = if image.len() > MOST_BYTES { 2 } else { random.between(1, 2) };
     let query = places_seen(arity, 1 << arity, &Labels { leaf: vec![0], branch: labels }, random.chance(70));
     let input = [image, &query.shuffled(random).concat()].concat();
     lend(random, KIND, input, Room::Enough, LONGEST_TABLE)

@@ -51,7 +51,8 @@ fn words_of(text: &[u8]) -> Option<Vec<Word>> {
 
 /// The label that is written so, and not otherwise.
 fn label_of(number: &[u8]) -> Option<u8> {
-    (0..LABELS).find(|label| label.to_string().as_bytes() == number)
+    let label: u8 = std::str::from_utf8(number).ok()?.parse().ok()?;
+    (label < LABELS && label.to_string().as_bytes() == number).then(|| label)
 }
 
 /// A label, and its children where brackets follow.
