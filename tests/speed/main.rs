@@ -1,8 +1,11 @@
-//! Times the library's six functions in turns with the ordinary program and with plain passes that make the same checks, and holds
-//! their answers together. Prints one table of medians in nanoseconds, and how the build grows with nodes, rules and arity.
+//! Times the library's functions in turns with ordinary programs and, for the questions, with plain passes that make the same checks,
+//! and holds their answers together. Prints one table of medians in nanoseconds, how the build grows with nodes, rules and arity, and
+//! the conversions between a text and a tree.
 
+mod nodes;
 mod ordinary;
 mod plain;
+mod texts;
 mod workloads;
 
 use ordinary::Built;
@@ -76,6 +79,8 @@ fn main() {
         let name = format!("{name}, {} records", ordinary::build(&input).records.len());
         print_line(&name, "build and count", build_and_count(&input, &mut buffers));
     }
+    println!("bracketed texts");
+    texts::time_all();
 }
 
 fn sets() -> Vec<(String, Vec<u8>)> {
