@@ -1,7 +1,9 @@
 //! Document 01's 'Examples by hand', with the values that the paper says or that were worked out from it by hand; the listing of B
-//! followed by Q as both programs print it; and each clause of 'A set is sound' broken once.
+//! followed by Q as both programs print it, and request 2026-01's example as `texts` does; and each clause of 'A set is sound' broken
+//! once.
 
 use crate::tally::Tally;
+use crate::texts_by_hand::IMAGES;
 use crate::verdict::{same, Verdict};
 use records::questions::Asked;
 use records::set::{is_sound, rows_of, Row};
@@ -75,8 +77,12 @@ pub fn check_all(programs: &Path, tally: &mut Tally) {
     for (label, check) in checks {
         tally.own("examples by hand", label, check());
     }
-    tally.own("examples by hand", "the listing by records", prints(programs, "records", LISTING_OF_B));
-    tally.own("examples by hand", "the rows by markings", prints(programs, "markings", MARKINGS_OF_B));
+    let b_and_q = [B, Q].concat();
+    tally.own("examples by hand", "the listing by records", prints(programs, "records", &[], &b_and_q, LISTING_OF_B.as_bytes()));
+    tally.own("examples by hand", "the rows by markings", prints(programs, "markings", &[], &b_and_q, MARKINGS_OF_B.as_bytes()));
+    let (text, image) = IMAGES[0];
+    tally.own("examples by hand", "the tree by texts", prints(programs, "texts", &[], text.as_bytes(), image));
+    tally.own("examples by hand", "the text by texts", prints(programs, "texts", &["back"], image, text.as_bytes()));
 }
 
 // ---- building
@@ -385,13 +391,13 @@ fn unit_twice() -> Verdict {
 
 // ---- the programs
 
-/// What the program beside this one prints on B followed by Q.
-fn prints(programs: &Path, name: &str, expected: &str) -> Verdict {
+/// What the program beside this one prints.
+fn prints(programs: &Path, name: &str, words: &[&str], input: &[u8], expected: &[u8]) -> Verdict {
     let run = || -> std::io::Result<Vec<u8>> {
-        let mut program = Command::new(programs.join(name)).stdin(Stdio::piped()).stdout(Stdio::piped()).spawn()?;
-        program.stdin.take().expect("its input").write_all(&[B, Q].concat())?;
+        let mut program = Command::new(programs.join(name)).args(words).stdin(Stdio::piped()).stdout(Stdio::piped()).spawn()?;
+        program.stdin.take().expect("its input").write_all(input)?;
         Ok(program.wait_with_output()?.stdout)
     };
     let printed = run().map_err(|error| format!("{name}: {error}"))?;
-    same(name, String::from_utf8_lossy(&printed).as_ref(), expected)
+    same(name, String::from_utf8_lossy(&printed), String::from_utf8_lossy(expected))
 }
