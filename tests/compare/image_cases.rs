@@ -204,18 +204,21 @@ fn short_trees(limits: &mut Limits) {
     }
 }
 
-/// 2,048 written nodes and more make an image that `texts` does not give: it is put together from a smaller one, each node more the
-/// parent of the one before.
+/// Images, and such with a record too few or too many. 2,048 written nodes and more make an image that `texts` does not give: it is put
+/// together from a smaller one, each node more the parent of the one before.
 fn most_nodes(limits: &mut Limits) {
+    let kind = "limit: 2,047 nodes and more";
     for written in around_most_nodes().into_iter().filter(|written| written.0.len() <= MOST_NODES) {
         let text = written.text();
         let image = image_of(&text);
+        limits.add(kind, (image[..image.len() - 2].to_vec(), Known::Refused), Room::Enough);
+        limits.add(kind, ([image.as_slice(), &[LEAF, 0]].concat(), Known::Refused), Room::Enough);
         for more in 0..=2 {
             let input = [image.as_slice(), &[LEAF, 0, BRANCH, 7].repeat(more)].concat();
             let is_small = written.0.len() + more <= MOST_NODES;
             let around = [b"7(".repeat(more), text.clone(), b")".repeat(more)].concat();
             let known = if is_small { Known::Result(around) } else { Known::Refused };
-            limits.add_in_all_rooms("limit: 2,047 nodes and more", (input, known));
+            limits.add_in_all_rooms(kind, (input, known));
         }
     }
 }

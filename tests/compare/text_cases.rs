@@ -185,17 +185,20 @@ fn short_texts(limits: &mut Limits) {
 
 const LONGEST_SHORT: usize = 5;
 
-/// As the way back writes them, and with much between.
+/// As the way back writes them, with much between, and with a bracket too few or too many.
 fn most_nodes(limits: &mut Limits) {
+    let kind = "limit: 2,047 nodes and more";
     for written in around_most_nodes() {
-        let spaced = written.spaced(&mut Random::of(9, written.0.len() as u64));
-        for input in [written.text(), spaced] {
-            limits.add_in_all_rooms("limit: 2,047 nodes and more", (input, known_of(&written)));
+        let (text, spaced) = (written.text(), written.spaced(&mut Random::of(9, written.0.len() as u64)));
+        limits.add(kind, (text[..text.len() - 1].to_vec(), Known::Refused), Room::Enough);
+        limits.add(kind, ([text.as_slice(), b")"].concat(), Known::Refused), Room::Enough);
+        for input in [text, spaced] {
+            limits.add_in_all_rooms(kind, (input, known_of(&written)));
         }
     }
 }
 
-pub fn known_of(written: &Written) -> Known {
+fn known_of(written: &Written) -> Known {
     if written.0.len() > MOST_NODES {
         Known::Refused
     } else {

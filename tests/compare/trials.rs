@@ -17,7 +17,7 @@ const VALGRIND: [&str; 4] = ["valgrind", "-q", "--leak-check=no", "--error-exitc
 
 /// What the driver gave for a call.
 pub enum Gave<'a> {
-    /// There is no driver: the two programs are judged alone.
+    /// There is no driver: the independent programs are judged alone.
     NoDriver,
     /// The driver ended before.
     Nothing,
