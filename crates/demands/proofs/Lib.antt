@@ -4,3 +4,4 @@ pub mod Narrowed
 pub mod OneAnswer
 pub mod Refusals
 pub mod Witness
+pub mod Conversions

@@ -43,11 +43,11 @@ abbrev Told : {Result A : Type 0} → (Refusal → Result) → (Result → Reply
 Told {A = A} Refused says r = ((why : Refusal) × (r ≡ Refused why)) ⊎ ((a : A) × (says r ≡ answer a))
 
 -- what is told of an answer is an answer, and of a refusal the refusal
-told-refused : {A B : Type 0} (f : A → B) (reply : Reply A) (n : ℕ) → (told f reply ≡ refused n) ↔ (reply ≡ refused n)
+pub told-refused : {A B : Type 0} (f : A → B) (reply : Reply A) (n : ℕ) → (told f reply ≡ refused n) ↔ (reply ≡ refused n)
 told-refused f (refused m) n = (λ e. ap refused (refused-inj e), λ e. ap (told f) e)
 told-refused f (answer a) n = (λ e. absurd (refused-not-answer (sym e)), λ e. absurd (refused-not-answer (sym e)))
 
-told-answer : {A B : Type 0} (f : A → B) (reply : Reply A) (b : B) → told f reply ≡ answer b → (a : A) × (reply ≡ answer a)
+pub told-answer : {A B : Type 0} (f : A → B) (reply : Reply A) (b : B) → told f reply ≡ answer b → (a : A) × (reply ≡ answer a)
 told-answer f (refused m) b e = absurd (refused-not-answer e)
 told-answer f (answer a) b e = (a, refl)
 

@@ -15,14 +15,16 @@ pub record Images (bytes : List ℕ) (w : WrittenTree) : Type 0 where
   pub allowed : Allowed w
   pub image : imageBytes w ≡ bytes
 
+-- what is replied of a source that is of some tree, or of none, where a tree's result is these bytes and the output has so much room
+pub data Conversion (Of : WrittenTree → Type 0) (result : WrittenTree → List ℕ) (room : ℕ) : Reply (List ℕ) → Type 0 where
+  of-none : ((w : WrittenTree) → Of w → ⊥) → Conversion Of result room (refused 15)
+  no-room : {w : WrittenTree} → Of w → room < length (result w) → Conversion Of result room (refused 10)
+  the-result : {w : WrittenTree} → Of w → length (result w) ≤ room → Conversion Of result room (answer (result w))
+
 -- text to tree
-pub data TreeReply (text : List ℕ) (room : ℕ) : Reply (List ℕ) → Type 0 where
-  no-writing : ((w : WrittenTree) → Writes text w → ⊥) → TreeReply text room (refused 15)
-  no-room : {w : WrittenTree} → Writes text w → room < length (imageBytes w) → TreeReply text room (refused 10)
-  the-image : {w : WrittenTree} → Writes text w → length (imageBytes w) ≤ room → TreeReply text room (answer (imageBytes w))
+abbrev pub TreeReply : List ℕ → ℕ → Reply (List ℕ) → Type 0
+TreeReply text room = Conversion (Writes text) imageBytes room
 
 -- tree to text
-pub data TextReply (bytes : List ℕ) (room : ℕ) : Reply (List ℕ) → Type 0 where
-  no-image : ((w : WrittenTree) → Images bytes w → ⊥) → TextReply bytes room (refused 15)
-  no-room : {w : WrittenTree} → Images bytes w → room < length (textOf w) → TextReply bytes room (refused 10)
-  the-text : {w : WrittenTree} → Images bytes w → length (textOf w) ≤ room → TextReply bytes room (answer (textOf w))
+abbrev pub TextReply : List ℕ → ℕ → Reply (List ℕ) → Type 0
+TextReply bytes room = Conversion (Images bytes) textOf room

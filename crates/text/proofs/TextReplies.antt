@@ -9,7 +9,7 @@ use lib.Seq.{take-all}
 use Rattle.paper.specs.declared.Converted.the-variants as ConvertedIs
 use Rattle.paper.specs.declared.Refusal.the-variants as RefusalIs
 use Rattle.paper.specs.CanonicalText.{textOf}
-use Rattle.paper.specs.Conversions.{Images, no-image, no-room, the-text}
+use Rattle.paper.specs.Conversions.{Images, no-room, of-none, the-result}
 use Rattle.paper.specs.Image.{imageBytes}
 use Rattle.paper.specs.Refusals.{answer, over, refused}
 use Rattle.paper.specs.WrittenTree.{WrittenTree}
@@ -29,7 +29,7 @@ pub image-refused : (bytes out : List ℕ) → acceptsImage (imageJudged nothing
     → MakesText bytes out (ConvertedIs.Refused RefusalIs.Text) out
 image-refused bytes out e = record {
   reply = refused 15;
-  right = no-image (λ w I. false≢true (sym e ∙ images-accepted bytes w I));
+  right = of-none (λ w I. false≢true (sym e ∙ images-accepted bytes w I));
   answer = refl;
   written = refl;
 }
@@ -50,7 +50,7 @@ module _ (bytes : List ℕ) (start : ℕ) (text : List ℕ) (W : WritesText byte
       → MakesText bytes out (ConvertedIs.Bytes (8188 - start)) out′
   text-told fits out′ e = record {
     reply = answer (textOf (W .tree));
-    right = the-text (W .images) (omega (arith, text-length));
+    right = the-result (W .images) (omega (arith, text-length));
     answer = ap answer (sym text-length);
     written = e ∙ ap (λ t. over t out) (all ∙ W .stands);
   }

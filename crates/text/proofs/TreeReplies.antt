@@ -13,7 +13,7 @@ use lib.Seq.{length-take-le}
 use Rattle.paper.specs.declared.Converted.the-variants as ConvertedIs
 use Rattle.paper.specs.declared.Refusal.the-variants as RefusalIs
 use Rattle.paper.specs.BracketedText.{Writes}
-use Rattle.paper.specs.Conversions.{TreeReply, no-writing, no-room, the-image}
+use Rattle.paper.specs.Conversions.{no-room, of-none, the-result}
 use Rattle.paper.specs.Image.{imageBytes}
 use Rattle.paper.specs.Refusals.{answer, over, refused}
 use Rattle.paper.specs.WrittenTree.{WrittenTree}
@@ -42,7 +42,7 @@ module _ (text : List ℕ) (s : Reading) (labels image : List ℕ) (e : Ends tex
           ap atEnd (state-refused s labels image over-all)
 
   pub text-refused : (out : List ℕ) → false ≡ whole → MakesTree text out (ConvertedIs.Refused RefusalIs.Text) out
-  text-refused out h = record { reply = refused 15; right = no-writing never; answer = refl; written = refl }
+  text-refused out h = record { reply = refused 15; right = of-none never; answer = refl; written = refl }
     where
       never : (w : WrittenTree) → Writes text w → ⊥
       never w g =
@@ -94,7 +94,7 @@ module _ (text : List ℕ) (s : Reading) (labels image : List ℕ) (e : Ends tex
         → MakesTree text out (ConvertedIs.Bytes (r .bytes)) out′
     image-told out fits out′ written = record {
       reply = answer (imageBytes (the-tree .tree));
-      right = the-image (the-tree .writes) (omega (arith, image-long));
+      right = the-result (the-tree .writes) (omega (arith, image-long));
       answer = ap answer (sym image-long);
       written = written ∙ ap (λ x. over x out) (the-tree .stands);
     }

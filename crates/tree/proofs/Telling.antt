@@ -9,7 +9,7 @@ use Rattle.paper.specs.declared.Converted.{Converted}
 use Rattle.paper.specs.declared.Converted.the-variants as ConvertedIs
 use Rattle.paper.specs.declared.Refusal.{Refusal}
 use Rattle.paper.specs.Answers.{numberOf, saysConverted, told}
-use Rattle.paper.specs.Conversions.{TreeReply, no-writing, no-room, the-image}
+use Rattle.paper.specs.Conversions.{TreeReply, no-room, of-none, the-result}
 use Rattle.paper.specs.Image.{imageBytes}
 use Rattle.paper.specs.Refusals.{Reply, answer, outputAfter, refused}
 use Rattle.paper.specs.WrittenTree.{Allowed, WrittenTree}
@@ -41,16 +41,16 @@ module _ (input out : List ℕ) (short : length input ≤ longestInput) (long : 
   -- a refusal is 15
   reply-refused : (reply : Reply (List ℕ)) → TreeReply input (length out) reply → (n : ℕ) → refused n ≡ told length reply
       → Tells input (factText refusedWord n)
-  reply-refused _ (no-writing none) n e = subst (λ (m : ℕ). Tells input (factText refusedWord m)) (sym (refused-inj e)) (T.no-writing short none)
+  reply-refused _ (of-none none) n e = subst (λ (m : ℕ). Tells input (factText refusedWord m)) (sym (refused-inj e)) (T.no-writing short none)
   reply-refused _ (no-room {w} h full) n e = absurd (omega (arith, image-short w (writes-allowed input w h), full, long))
-  reply-refused _ (the-image h fits) n e = absurd (refused-not-answer e)
+  reply-refused _ (the-result h fits) n e = absurd (refused-not-answer e)
 
   -- an answer is how many bytes of records stand in the output
   reply-answered : (reply : Reply (List ℕ)) → TreeReply input (length out) reply → (n : ℕ) → answer n ≡ told length reply
       → (out′ : List ℕ) → length out′ ≡ longestImage → out′ ≡ outputAfter reply out → Stands input n out′
-  reply-answered _ (no-writing none) n e out′ long′ o = absurd (refused-not-answer (sym e))
+  reply-answered _ (of-none none) n e out′ long′ o = absurd (refused-not-answer (sym e))
   reply-answered _ (no-room h full) n e out′ long′ o = absurd (refused-not-answer (sym e))
-  reply-answered _ (the-image {w} h fits) n e out′ long′ o =
+  reply-answered _ (the-result {w} h fits) n e out′ long′ o =
       let bytes = imageBytes w in
       let all : n ≡ length bytes = answer-inj e in
       let stands : take n out′ ≡ bytes = ap (take n) o ∙ take-at bytes (drop (length bytes) out) n (sym all) in record {
