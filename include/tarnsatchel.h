@@ -1,12 +1,13 @@
 /* Tarnsatchel for C: a query's answer over a tree, kept as a set of records in buffers that the caller lends.
- * First the types and numbers, then the six functions: a build, and five questions on a set.
+ * First the types and numbers, then the eight functions: a build, five questions on a set, and text to tree and back.
  *
- * For all six:
+ * For all eight:
  * - They return 0 for an answer, else the number of the refusal. Any input, head, table, number and length is answered or
  *   refused; nothing has to be checked before a call.
  * - A buffer is a pointer and its length in entries. It may be longer than asked for: the entries behind stay as they are.
  *   With length 0 the pointer is not followed. What a call writes to may not overlap what else is lent to it.
- * - What is lent as const is not written. The out parameters (head, rows, listed, fixed) are written only with an answer.
+ * - What is lent as const is not written. The out parameters (head, rows, listed, fixed, bytes) are written only with an
+ *   answer.
  * - Work need not be cleared before a call. After it the stated part is zero and the rest as it was; after refusals 1 to 5
  *   all of it is as it was.
  * - Nothing is kept between calls and no memory is asked for, so calls on different buffers may run at the same time.
@@ -40,6 +41,10 @@ enum { TARN_BLANK = 65535 };
 /* No build asks for more work, and none makes more records. */
 enum { TARN_MOST_WORK = 524544, TARN_MOST_RECORDS = 60000 };
 
+/* The most written nodes of a bracketed text. Outputs of so many bytes are long enough for the records of any text, and for
+ * the text of any records: no call then refuses 10. */
+enum { TARN_MOST_WRITTEN = 2047, TARN_LONGEST_TREE = 8190, TARN_LONGEST_TEXT = 8188 };
+
 /* The numbers that say no. */
 enum {
     TARN_REFUSED_TREE = 1,          /* cut, label over 63, branch with fewer than two unjoined, no node, not one subtree */
@@ -51,11 +56,12 @@ enum {
     TARN_REFUSED_PLACE = 7,         /* place not 1 to the arity, or not open */
     TARN_REFUSED_NODE = 8,          /* node not in the tree; in a row also a fixed place that is not blank */
     TARN_REFUSED_ROW_NUMBER = 9,    /* row number not below the count */
-    TARN_REFUSED_SHORT_OUTPUT = 10, /* output shorter than the arity (row) or than the nodes (project) */
+    TARN_REFUSED_SHORT_OUTPUT = 10, /* output shorter than the arity (row), the nodes (project) or the result (text, tree) */
     TARN_REFUSED_NOT_SOUND = 11,    /* head and table are no sound set */
     TARN_REFUSED_UNIT_TWICE = 12,   /* fix: both operands of a used union become unit; never of a set that was built */
     TARN_REFUSED_ROW_LENGTH = 13,   /* row not as long as the arity */
-    TARN_REFUSED_LONG_INPUT = 14    /* input over 16,384 bytes: the listing program's, and no function's */
+    TARN_REFUSED_LONG_INPUT = 14,   /* input over 16,384 bytes (listing program) or 65,536 (program tree); no function's */
+    TARN_REFUSED_TEXT = 15          /* text outside the rules of bracketed text, or bytes that are not wholly an image */
 };
 
 /* Builds the set of a stream, a tree's records and then a query's. A row is listed exactly if the tree, marked at the row's
@@ -96,6 +102,25 @@ uint8_t tarn_project(const uint16_t head[TARN_HEAD], const tarn_record *table, s
 uint8_t tarn_fix(const uint16_t head[TARN_HEAD], const tarn_record *source, size_t source_length, uint64_t *work,
                  size_t work_length, uint16_t place, uint16_t node, tarn_record *target, size_t target_length,
                  uint16_t fixed[TARN_HEAD]);
+
+/* Makes tree records, as tarn_build reads them, of a tree that is written as bracketed text.
+ * The text has one root. A label is a decimal number 0 to 63 without leading zeros; its children follow in round brackets, as
+ * in 9(5 6), and brackets with nothing between them mean no children. Blanks and line ends (bytes 32 and 10) may stand
+ * anywhere but inside a number, and one must stand between two numbers. A comment, from an exclamation mark to the next line
+ * end or the text's end, may stand where a blank may. Any other byte is wrong, also a slash, a tab and a carriage return.
+ * The image: every written node is a branch, with its first child left and its next sibling right, and a missing one is a pad,
+ * a leaf of label 0. n written nodes give 2n + 1 nodes, which are 4n + 2 bytes. 9(5 6) gives seven: pads 0, 1, 2, branch 6 as
+ * node 3, branch 5 as node 4, pad 5, branch 9 as node 6.
+ * Returns 0, or 15, 10, in this order; 15 also for more than TARN_MOST_WRITTEN written nodes.
+ * Tree: *bytes entries are written, the rest is as it was; a refusal writes none. */
+uint8_t tarn_text_to_tree(const uint8_t *text, size_t text_length, uint8_t *tree, size_t tree_length, size_t *bytes);
+
+/* Writes the canonical text of tree records that are the image of a written tree: one byte 32 between two neighbouring
+ * numbers, no other blank or line end, no empty brackets and no comments. tarn_text_to_tree makes the same records of it.
+ * Returns 0, or 15, 10, in this order; 15 also where anything stands behind the root, as a query does in a stream.
+ * Text: *bytes entries are written, at most 4 a written node, and no zero behind them; the rest is as it was; a refusal writes
+ * none. */
+uint8_t tarn_tree_to_text(const uint8_t *tree, size_t tree_length, uint8_t *text, size_t text_length, size_t *bytes);
 
 #ifdef __cplusplus
 }

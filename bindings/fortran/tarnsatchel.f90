@@ -1,14 +1,15 @@
-! Tarnsatchel for Fortran: the six functions of include/tarnsatchel.h, which says what each answers and leaves in its buffers.
+! Tarnsatchel for Fortran: the eight functions of include/tarnsatchel.h, which says what each answers and leaves in its buffers.
 ! First the type and the fixed numbers, then the interfaces of the C functions, then the functions over assumed-shape arrays.
+! Bracketed text is a character variable, everything else that is lent an array.
 !
 ! Each function gives 0 for an answer, else the number of the refusal. Fortran has no unsigned numbers: one of 16 bits above
 ! 32,767, a blank place among them, is negative in a head, a record or a row, and tarn_number gives it as it is meant.
 module tarnsatchel
-  use, intrinsic :: iso_c_binding, only: c_int8_t, c_int16_t, c_int64_t, c_size_t
+  use, intrinsic :: iso_c_binding, only: c_char, c_int8_t, c_int16_t, c_int64_t, c_size_t
   implicit none
   private
   public :: tarn_record, tarn_number
-  public :: tarn_build, tarn_count, tarn_row, tarn_member, tarn_project, tarn_fix
+  public :: tarn_build, tarn_count, tarn_row, tarn_member, tarn_project, tarn_fix, tarn_text_to_tree, tarn_tree_to_text
 
   ! One entry of the table; all zeros is the blank entry.
   type, bind(c) :: tarn_record
@@ -23,11 +24,15 @@ module tarnsatchel
   integer, parameter, public :: tarn_refused_tree = 1, tarn_refused_many_nodes = 2, tarn_refused_query = 3, &
       tarn_refused_twice = 4, tarn_refused_short_work = 5, tarn_refused_short_table = 6, tarn_refused_place = 7, &
       tarn_refused_node = 8, tarn_refused_row_number = 9, tarn_refused_short_output = 10, tarn_refused_not_sound = 11, &
-      tarn_refused_unit_twice = 12, tarn_refused_row_length = 13, tarn_refused_long_input = 14
+      tarn_refused_unit_twice = 12, tarn_refused_row_length = 13, tarn_refused_long_input = 14, &
+      tarn_refused_text = 15
   ! Stands at a fixed place of a row.
   integer(c_int16_t), parameter, public :: tarn_blank = -1
   ! No build asks for more work, and none makes more records.
   integer, parameter, public :: tarn_most_work = 524544, tarn_most_records = 60000
+  ! The most written nodes of a bracketed text. Outputs of so many bytes are long enough for the records of any text, and for
+  ! the text of any records.
+  integer, parameter, public :: tarn_most_written = 2047, tarn_longest_tree = 8190, tarn_longest_text = 8188
 
   interface
     function c_build(input, input_length, work, work_length, table, table_length, head) result(refused) &
@@ -95,6 +100,24 @@ module tarnsatchel
       type(tarn_record), intent(inout) :: target(*)
       integer(c_int16_t), intent(inout) :: fixed(6)
       integer(c_size_t), value :: source_length, work_length, target_length
+      integer(c_int8_t) :: refused
+    end function
+
+    function c_text_to_tree(text, text_length, tree, tree_length, bytes) result(refused) bind(c, name='tarn_text_to_tree')
+      import :: c_char, c_int8_t, c_size_t
+      character(kind=c_char), intent(in) :: text(*)
+      integer(c_int8_t), intent(inout) :: tree(*)
+      integer(c_size_t), value :: text_length, tree_length
+      integer(c_size_t), intent(inout) :: bytes
+      integer(c_int8_t) :: refused
+    end function
+
+    function c_tree_to_text(tree, tree_length, text, text_length, bytes) result(refused) bind(c, name='tarn_tree_to_text')
+      import :: c_char, c_int8_t, c_size_t
+      integer(c_int8_t), intent(in) :: tree(*)
+      character(kind=c_char), intent(inout) :: text(*)
+      integer(c_size_t), value :: tree_length, text_length
+      integer(c_size_t), intent(inout) :: bytes
       integer(c_int8_t) :: refused
     end function
   end interface
@@ -172,6 +195,31 @@ contains
     integer :: refused
     refused = c_fix(head, source, size(source, kind=c_size_t), work, size(work, kind=c_size_t), &
         sixteen_bits(place), sixteen_bits(node), target, size(target, kind=c_size_t), fixed)
+  end function
+
+  ! Makes tree records of bracketed text: tree(:bytes). Refused 15, 10.
+  function tarn_text_to_tree(text, tree, bytes) result(refused)
+    character(*, c_char), intent(in) :: text
+    integer(c_int8_t), contiguous, intent(inout) :: tree(:)
+    integer, intent(inout) :: bytes
+    integer :: refused
+    integer(c_size_t) :: told
+    told = 0
+    refused = c_text_to_tree(text, len(text, kind=c_size_t), tree, size(tree, kind=c_size_t), told)
+    if (refused == 0) bytes = int(told)
+  end function
+
+  ! Writes the canonical text of tree records that are the image of a written tree: text(:bytes). What stands behind it in the
+  ! variable stays; it is not filled up with blanks. Refused 15, 10.
+  function tarn_tree_to_text(tree, text, bytes) result(refused)
+    integer(c_int8_t), contiguous, intent(in) :: tree(:)
+    character(*, c_char), intent(inout) :: text
+    integer, intent(inout) :: bytes
+    integer :: refused
+    integer(c_size_t) :: told
+    told = 0
+    refused = c_tree_to_text(tree, size(tree, kind=c_size_t), text, len(text, kind=c_size_t), told)
+    if (refused == 0) bytes = int(told)
   end function
 
   ! A number of 16 bits as it is meant, 0 to 65,535.

@@ -1,5 +1,5 @@
-//! Tarnsatchel for Rust: the six functions of include/tarnsatchel.h, which says what each answers and what it leaves in its buffers.
-//! First the types, then a build and the five questions on a set, then the C functions behind them.
+//! Tarnsatchel for Rust: the eight functions of include/tarnsatchel.h, which says what each answers and what it leaves in its buffers.
+//! First the types, then a build, the five questions on a set, and text to tree and back, then the C functions behind them.
 //!
 //! A refusal is an error with its name. The buffers are the caller's: nothing is allocated, and none has to be cleared.
 
@@ -41,6 +41,12 @@ pub const BLANK: u16 = 65_535;
 pub const MOST_WORK: usize = 524_544;
 pub const MOST_RECORDS: usize = 60_000;
 
+/// The most written nodes of a bracketed text.
+pub const MOST_WRITTEN: usize = 2_047;
+/// Outputs of so many bytes are long enough for the records of any text, and for the text of any records.
+pub const LONGEST_TREE: usize = 8_190;
+pub const LONGEST_TEXT: usize = 8_188;
+
 /// The numbers that say no.
 #[derive(Clone, Copy, Debug, PartialEq, Eq)]
 #[repr(u8)]
@@ -58,8 +64,9 @@ pub enum Refusal {
     NotSound,
     UnitTwice,
     RowLength,
-    /// The listing program's, and no function's.
+    /// The programs', and no function's.
     LongInput,
+    Text,
 }
 
 /// Builds the set of a stream. Refused 1 to 6.
@@ -122,6 +129,21 @@ pub fn fix(
     unless_refused(refused, Head::of_numbers(fixed))
 }
 
+/// Makes tree records of bracketed text: `tree[..bytes]`, for the number it gives. Refused 15, 10.
+pub fn text_to_tree(text: &[u8], tree: &mut [u8]) -> Result<usize, Refusal> {
+    let mut bytes = 0;
+    let refused = unsafe { c::tarn_text_to_tree(text.as_ptr(), text.len(), tree.as_mut_ptr(), tree.len(), &mut bytes) };
+    unless_refused(refused, bytes)
+}
+
+/// Writes the canonical text of tree records that are the image of a written tree: `text[..bytes]`, all of it ASCII, for the number it
+/// gives. Refused 15, 10.
+pub fn tree_to_text(tree: &[u8], text: &mut [u8]) -> Result<usize, Refusal> {
+    let mut bytes = 0;
+    let refused = unsafe { c::tarn_tree_to_text(tree.as_ptr(), tree.len(), text.as_mut_ptr(), text.len(), &mut bytes) };
+    unless_refused(refused, bytes)
+}
+
 impl Head {
     fn numbers(&self) -> [u16; 6] {
         let (set, record) = match self.set {
@@ -150,7 +172,7 @@ fn unless_refused<A>(number: u8, answer: A) -> Result<A, Refusal> {
 }
 
 /// By their numbers, from 1.
-const REFUSALS: [Refusal; 14] = [
+const REFUSALS: [Refusal; 15] = [
     Refusal::Tree,
     Refusal::ManyNodes,
     Refusal::Query,
@@ -165,6 +187,7 @@ const REFUSALS: [Refusal; 14] = [
     Refusal::UnitTwice,
     Refusal::RowLength,
     Refusal::LongInput,
+    Refusal::Text,
 ];
 
 impl Refusal {
@@ -244,5 +267,7 @@ mod c {
             target_length: usize,
             fixed: &mut [u16; 6],
         ) -> u8;
+        pub fn tarn_text_to_tree(text: *const u8, text_length: usize, tree: *mut u8, tree_length: usize, bytes: &mut usize) -> u8;
+        pub fn tarn_tree_to_text(tree: *const u8, tree_length: usize, text: *mut u8, text_length: usize, bytes: &mut usize) -> u8;
     }
 }
