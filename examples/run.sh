@@ -1,7 +1,7 @@
 #!/usr/bin/env bash
-# Compiles the example in C, in Fortran and in Rust and runs each on the streams; what it prints is held to what must come out, which
-# was worked out by hand and by trying all markings (examples/streams/*.md), and its exit status to what examples/README.md says. The
-# last line is 'N passed, M failed'.
+# Compiles the two examples in C, in Fortran and in Rust and runs each, one on the streams, the other on typed trees; what they print
+# is held to what must come out, which was worked out by hand and by trying all markings (examples/streams/*.md, examples/README.md),
+# and their exit status to what examples/README.md says. The last line is 'N passed, M failed'.
 # TARN_ARCHIVE=FILE takes another archive than that of crate `tarnsatchel`.
 set -u
 cd "$(dirname "$0")/.." || exit 2
@@ -22,6 +22,20 @@ show() {
     prints "$language, too few words" 2 /dev/null "$@" examples/streams/pairs.stream
 }
 
+# typed LANGUAGE COMMAND ..: on a tree that is not written canonically, on README.md's, on the shortest, on texts that are refused, with
+# a label that the query refuses, and with words that it cannot take
+typed() {
+    local language=$1
+    shift
+    prints "$language, a typed tree" 0 examples/typed.expected "$@" 5 '9 (5 6()  9(5 6 6)) ! 5 // 6'
+    prints "$language, seven nodes" 0 <(printf '%s\n' 'tree 1 0 1 0 1 0 2 6 2 5 1 0 2 9' 'rows 1' 3 'text 9(5 6)') "$@" 6 '9(5 6)'
+    prints "$language, a label that is not there" 0 <(printf '%s\n' 'tree 1 0 1 0 2 0' 'rows 0' 'text 0') "$@" 5 '0()'
+    prints "$language, a slash" 1 <(echo 'text_to_tree refused 15') "$@" 5 '9(5 / 6)'
+    prints "$language, no text" 1 <(echo 'text_to_tree refused 15') "$@" 5 ''
+    prints "$language, label 64" 1 <(printf '%s\n' 'tree 1 0 1 0 2 9' 'build refused 3') "$@" 64 9
+    prints "$language, one word" 2 /dev/null "$@" '9(5 6)'
+}
+
 for stream in pairs triples; do
     bash examples/streams/bytes.sh <"examples/streams/$stream.txt" | od -An -v -tu1 >"$out/made"
     same "$stream.stream and its text" <(od -An -v -tu1 "examples/streams/$stream.stream") "$out/made"
@@ -31,9 +45,13 @@ need_archive
 need_compiler
 c_program show_c examples/c/show.c
 show C "${runner[@]}" "$out/show_c"
+c_program typed_c examples/c/typed.c
+typed C "${runner[@]}" "$out/typed_c"
 need_fortran
 fortran_program show_fortran bindings/fortran/tarnsatchel.f90 examples/fortran/show.f90
 show Fortran "${runner[@]}" "$out/show_fortran"
+fortran_program typed_fortran bindings/fortran/tarnsatchel.f90 examples/fortran/typed.f90
+typed Fortran "${runner[@]}" "$out/typed_fortran"
 if [ "${#runner[@]}" -gt 0 ]; then
     echo "Rust is left out: the archive is x86-64 code, and this host has no x86-64 standard library of Rust"
 else
@@ -42,7 +60,8 @@ else
     # cargo finds the library's archive itself; another one by its whole path, since bindings/rust/build.rs runs in its own folder
     [ -z "${TARN_ARCHIVE:-}" ] || export TARN_ARCHIVE="$(readlink -f "$TARN_ARCHIVE")"
     cargo build -q --release --locked --offline --manifest-path examples/rust/Cargo.toml --target-dir "$out/cargo" ||
-        give_up "the Rust example does not compile or link"
+        give_up "the Rust examples do not compile or link"
     show Rust "$out/cargo/release/show"
+    typed Rust "$out/cargo/release/typed"
 fi
 end_checks
