@@ -1,5 +1,5 @@
-# For people who install. `make` has the kit prove and build the library's archive and the listing program, `make check` is the
-# gate, `make install PREFIX=` copies what others build on to where they look for it, and `make uninstall PREFIX=` takes it away.
+# For people who install. `make` has the kit prove and build the library's archive and the two programs, `make check` is the gate,
+# `make install PREFIX=` copies what others build on to where they look for it, and `make uninstall PREFIX=` takes it away.
 # First what may be set, then building, then installing.
 
 PREFIX ?= /usr/local
@@ -12,14 +12,15 @@ to = $(DESTDIR)$(PREFIX)
 # What is installed. Another file that is named here is taken as it is.
 ARCHIVE = target/staticlib/libtarnsatchel.a
 PROGRAM = target/bin/list
+TREE_PROGRAM = target/bin/tree
 # The version stands where cargo wants it, and in no second place by hand.
 VERSION := $(shell sed -n 's/^version = "\(.*\)"$$/\1/p' bindings/rust/Cargo.toml)
 
-all: $(ARCHIVE) $(PROGRAM)
+all: $(ARCHIVE) $(PROGRAM) $(TREE_PROGRAM)
 
 # Folders are among the sources: a file that is taken away makes its folder newer.
 SOURCES := crates.txt $(shell find crates)
-# Both rules prove the same crates, into the same files of target/.
+# All of them prove the same crates, into the same files of target/.
 .NOTPARALLEL:
 
 # What is built is dated from before the proof, so that a source changed meanwhile is newer; and dated anew where rt found that a
@@ -30,20 +31,21 @@ target/staticlib/libtarnsatchel.a: $(SOURCES)
 	touch -r target/begun $@
 
 # rt does not build a program again that it has proved, even where the program is gone.
-target/bin/list: $(SOURCES)
+target/bin/list target/bin/tree: target/bin/%: $(SOURCES)
 	mkdir -p target && touch target/begun
-	[ -x $@ ] || rm -f target/stamp/list
-	rt check list
+	[ -x $@ ] || rm -f target/stamp/$*
+	rt check $*
 	touch -r target/begun $@
 
 check:
 	bash .ci/run
 
 # The Fortran module as its source, since a .mod is of one compiler and version; beside the header, where pkg-config's -I finds it.
-# The program under the library's name, since `list` would be anybody's.
+# The programs under the library's name, since `list` and `tree` are names that hosts have already.
 install: all
 	install -d '$(to)/bin' '$(to)/include' '$(to)/lib/pkgconfig'
 	install -m 755 '$(PROGRAM)' '$(to)/bin/tarnsatchel-list'
+	install -m 755 '$(TREE_PROGRAM)' '$(to)/bin/tarnsatchel-tree'
 	install -m 644 include/tarnsatchel.h bindings/fortran/tarnsatchel.f90 '$(to)/include'
 	install -m 644 '$(ARCHIVE)' '$(to)/lib/libtarnsatchel.a'
 	{ echo 'prefix=$(PREFIX)' && sed 's/@VERSION@/$(VERSION)/' tarnsatchel.pc.in; } >'$(to)/lib/pkgconfig/tarnsatchel.pc'
@@ -51,8 +53,8 @@ install: all
 
 # The folders stay: they are not ours alone.
 uninstall:
-	rm -f '$(to)/bin/tarnsatchel-list' '$(to)/include/tarnsatchel.h' '$(to)/include/tarnsatchel.f90' \
-		'$(to)/lib/libtarnsatchel.a' '$(to)/lib/pkgconfig/tarnsatchel.pc'
+	rm -f '$(to)/bin/tarnsatchel-list' '$(to)/bin/tarnsatchel-tree' '$(to)/include/tarnsatchel.h' \
+		'$(to)/include/tarnsatchel.f90' '$(to)/lib/libtarnsatchel.a' '$(to)/lib/pkgconfig/tarnsatchel.pc'
 
 # All proofs go with it.
 clean:

@@ -2,7 +2,7 @@
 # Installs with the Makefile into folders of its own and uses what is there as README.md says, its commands letter by letter: in a
 # folder outside of the repository, where only pkg-config can tell what is where. What the programs print is held to what the
 # examples expect, which was worked out by hand. The last line is 'N passed, M failed'.
-# TARN_ARCHIVE=FILE and TARN_PROGRAM=FILE have another archive and program installed.
+# TARN_ARCHIVE=FILE, TARN_PROGRAM=FILE and TARN_TREE_PROGRAM=FILE have another archive, listing program and program `tree` installed.
 set -u
 cd "$(dirname "$0")/.." || exit 2
 . tests/host.sh
@@ -18,7 +18,8 @@ prefix=$away/prefix stage=$away/stage
 
 # makes WORDS ..: what follows cannot be tried where it fails
 makes() {
-    make "$@" ${TARN_ARCHIVE:+"ARCHIVE=$TARN_ARCHIVE"} ${TARN_PROGRAM:+"PROGRAM=$TARN_PROGRAM"} >"$out/make.log" 2>&1 </dev/null ||
+    make "$@" ${TARN_ARCHIVE:+"ARCHIVE=$TARN_ARCHIVE"} ${TARN_PROGRAM:+"PROGRAM=$TARN_PROGRAM"} \
+        ${TARN_TREE_PROGRAM:+"TREE_PROGRAM=$TARN_TREE_PROGRAM"} >"$out/make.log" 2>&1 </dev/null ||
         give_up "make $*: $(tail -n 1 "$out/make.log") (see $out/make.log)"
 }
 # the files of a folder, each with its mode
@@ -28,6 +29,7 @@ files() { (cd "$1" && find . ! -type d -printf '%m %P\n') | LC_ALL=C sort -k 2; 
 
 cat >"$out/files" <<'FILES'
 755 bin/tarnsatchel-list
+755 bin/tarnsatchel-tree
 644 include/tarnsatchel.f90
 644 include/tarnsatchel.h
 644 lib/libtarnsatchel.a
@@ -60,14 +62,16 @@ same "the version" <(says "$prefix" --modversion) <(sed -n 's/^version = "\(.*\)
 
 # ---- README.md's commands
 
-# On an Arm host its words mean the cross compilers, and the program under the emulator.
+# On an Arm host its words mean the cross compilers, and the programs under the emulator.
 stand_in() { printf '#!/bin/sh\nexec %s "$@"\n' "${*:2}" >"$out/bin/$1" && chmod +x "$out/bin/$1"; }
 if [ "${#runner[@]}" -gt 0 ]; then
     stand_in gcc "$compiler"
     stand_in gfortran "$fortran"
-    stand_in tarnsatchel-list "${program_runner[@]}" "$prefix/bin/tarnsatchel-list"
+    for installed in tarnsatchel-list tarnsatchel-tree; do
+        stand_in "$installed" "${program_runner[@]}" "$prefix/bin/$installed"
+    done
 fi
-cp examples/c/show.c examples/fortran/show.f90 examples/streams/pairs.stream "$away" || exit 2
+cp examples/c/show.c examples/fortran/show.f90 examples/streams/{pairs.stream,names.tree,names.txt,bytes.sh} "$away" || exit 2
 path=$PWD/$out/bin:$prefix/bin:$PATH
 in_away() { (cd "$away" && PATH=$path PKG_CONFIG_LIBDIR=$prefix/lib/pkgconfig bash -c "$1"); }
 # readme_prints WORD FILE: the command that begins with the word
@@ -86,8 +90,9 @@ for compiles in gcc gfortran; do
         "${runner[@]}" "$away/show" examples/streams/triples.stream 0 2 1 10 10 1 8
 done
 readme_prints tarnsatchel-list <(printf 'records 11\nrows 3\n4 5\n8 13\n11 13\n')
+readme_prints '{ tarnsatchel-tree' <(printf 'records 11\nrows 3\n8 27\n17 26\n20 26\n')
 
-# ---- the program, of which README.md says what it asks of a host and with what it ends
+# ---- the programs, of which README.md says what they ask of a host and with what they end
 
 asks() {
     local -x LC_ALL=C
@@ -96,9 +101,12 @@ asks() {
     "$readelf" -dW "$1" | sed -n 's/.*(\(NEEDED\|RPATH\|RUNPATH\)).*\[\(.*\)\]/\2/p'
     "$readelf" -VW "$1" | grep -o 'GLIBC_[0-9.]*' | sort -Vu | tail -n 1
 }
-same "what the program asks of a host" <(asks "$prefix/bin/tarnsatchel-list") \
-    <(printf '%s\n' /lib64/ld-linux-x86-64.so.2 libc.so.6 "GLIBC_$(shown '.*glibc \([0-9.]*[0-9]\) .*')")
+for installed in tarnsatchel-list tarnsatchel-tree; do
+    same "what $installed asks of a host" <(asks "$prefix/bin/$installed") \
+        <(printf '%s\n' /lib64/ld-linux-x86-64.so.2 libc.so.6 "GLIBC_$(shown '.*glibc \([0-9.]*[0-9]\) .*')")
+done
 prints "an empty stream" 0 <(echo 'refused 1') env -i "${program_runner[@]}" "$prefix/bin/tarnsatchel-list" </dev/null
+prints "an empty text" 0 <(echo 'refused 15') env -i "${program_runner[@]}" "$prefix/bin/tarnsatchel-tree" </dev/null
 
 # ---- taken away
 
