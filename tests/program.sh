@@ -1,8 +1,8 @@
 #!/usr/bin/env bash
-# First the lines that are believed and not proved. Then ./list as a user runs it: README.md's own example letter by letter, each exit status, a
-# text that cannot be written or that nobody reads on; then, with stand-ins for the program and for rt, what it says while it proves
-# and builds, and what it does where that fails. tests/compare.sh holds the program's texts to the independent programs. The last
-# line is 'N passed, M failed'.
+# First the lines that are believed and not proved. Then ./list as a user runs it: README.md's own example letter by letter, files of
+# each kind, each exit status, a text that cannot be written or that nobody reads on; then, with stand-ins for the programs and for rt,
+# what it says while it proves and builds, and what it does where that fails. tests/compare.sh holds the programs' texts to the
+# independent programs. The last line is 'N passed, M failed'.
 set -u
 cd "$(dirname "$0")/.." || exit 2
 . tests/host.sh
@@ -10,6 +10,8 @@ out=target/tests/program
 rm -rf "$out" && mkdir -p "$out" || exit 2
 need_program
 pairs=examples/streams/pairs.stream
+names=examples/streams/names
+printf 'records 11\nrows 3\n4 5\n8 13\n11 13\n' >"$out/pairs"
 
 # lines LABEL NUMBER: so many lines were said on standard error, and none of them is empty
 lines() {
@@ -61,28 +63,72 @@ done
 # ---- README.md
 
 readme=$(sed -n 's/^    \(\.\/list .*\)/\1/p' README.md)
-# the first block behind the command that names no language
-awk '/^    \.\/list / { seen = 1 }
-     /^```/ { inside = !inside; plain = inside && $0 == "```"; if (!inside && shown) exit; next }
-     seen && plain { shown = 1; print }' README.md >"$out/shown"
+# shown LANGUAGE: the first block of this language behind the command
+shown() {
+    awk -v fence='```'"$1" '
+        /^    \.\/list / { seen = 1 }
+        /^```/ { inside = !inside; of = inside && $0 == fence; if (!inside && shown) exit; next }
+        seen && of { shown = 1; print }' README.md
+}
+shown '' >"$out/shown"
 [ -n "$readme" ] && [ -s "$out/shown" ] || give_up "README.md shows no command ./list, or not what it prints"
-# brings the program up to date, which the next one then need not say
-./list /dev/null >/dev/null 2>&1
+same "README's tree" <(shown tree) "$names.tree"
+# brings the programs up to date, which the next one then need not say
+bash -c "$readme" >/dev/null 2>&1
 prints "README's example" 0 "$out/shown" bash -c "$readme"
 lines "README's example" 0
-prints "README's example on standard input" 0 "$out/shown" ./list <"$pairs"
+tree=("${program_runner[@]}" target/bin/tree)
+bash examples/streams/bytes.sh <"$names.txt" >"$out/names.query"
+{ "${tree[@]}" <"$names.tree" && cat "$out/names.query"; } >"$out/names.stream"
+
+# ---- what a file is
+
+prints "a tree and a query in bytes" 0 "$out/shown" ./list "$names.tree" "$out/names.query"
+prints "both in bytes" 0 "$out/shown" ./list <("${tree[@]}" <"$names.tree") "$out/names.query"
+prints "both in bytes, in one file" 0 "$out/shown" ./list "$out/names.stream"
+prints "both in bytes, on standard input" 0 "$out/shown" ./list <"$out/names.stream"
+prints "one file of bytes" 0 "$out/pairs" ./list "$pairs"
+prints "one file of text" 0 "$out/pairs" ./list "${pairs%.stream}.txt"
+sed '/^16/,$d' "${pairs%.stream}.txt" >"$out/pairs tree.txt"
+sed -n '/^16/,$p' "${pairs%.stream}.txt" >"$out/pairs query.txt"
+prints "two files of text, with blanks in their names" 0 "$out/pairs" ./list "$out/pairs tree.txt" "$out/pairs query.txt"
+lines "two files of text" 0
 
 # ---- exit status
 
 prints "an empty stream" 1 <(echo 'refused 1') ./list /dev/null
 lines "an empty stream" 0
 prints "a stream that is too long" 1 <(echo 'refused 14') ./list <(head -c 16385 /dev/zero)
-prints "no such file" 2 /dev/null ./list "$out/none"
-lines "no such file" 1
-prints "a folder" 2 /dev/null ./list "$out"
-lines "a folder" 1
-prints "two files" 2 /dev/null ./list "$pairs" "$pairs"
-lines "two files" 1
+prints "a query behind a query" 1 <(echo 'refused 3') ./list "$pairs" "$out/names.query"
+prints "a file without end" 1 <(echo 'refused 14') ./list "$names.tree" /dev/zero
+prints "a tree without a query" 1 <(echo 'refused 3') ./list "$names.tree"
+# a slash that is in no comment
+echo '9(5 / 6)' >"$out/slash.tree"
+prints "a tree that is refused" 1 <(echo 'refused 15') ./list "$out/slash.tree" "$names.txt"
+lines "a tree that is refused" 0
+{ cat "$names.tree" && head -c 65536 /dev/zero | tr '\0' ' '; } >"$out/long.tree"
+prints "a tree that is too long" 1 <(echo 'refused 14') ./list "$out/long.tree" "$names.txt"
+lines "a tree that is too long" 0
+head -c 65536 "$out/long.tree" >"$out/enough.tree"
+prints "a tree just short enough" 0 "$out/shown" ./list "$out/enough.tree" "$names.txt"
+mkdir "$out/folder.tree"
+for missing in "$out/none" "$out/none.tree" "$out/none.txt" "$out" "$out/folder.tree"; do
+    prints "no file $missing" 2 /dev/null ./list "$missing"
+    lines "no file $missing" 1
+    prints "no tree $missing" 2 /dev/null ./list "$missing" "$names.txt"
+    lines "no tree $missing" 1
+    prints "no query $missing" 2 /dev/null ./list "$names.tree" "$missing"
+    lines "no query $missing" 1
+done
+prints "three files" 2 /dev/null ./list "$names.tree" "$names.txt" "$names.txt"
+lines "three files" 1
+# wrong_word WORD: in the last of three lines
+wrong_word() {
+    printf '16 2 4 # head\n\n17 %s 0 0\n' "$1" >"$out/wrong.txt"
+    prints "$1 in a text" 2 /dev/null ./list "$names.tree" "$out/wrong.txt"
+    same "$1 in a text: what is said" "$out/said" <(printf 'list: %s: line 3: %q is no number from 0 to 255\n' "$out/wrong.txt" "$1")
+}
+for word in 256 -1 05 x '*' 1.5 $'5\r'; do wrong_word "$word"; done
 
 # ---- long listings
 
@@ -121,47 +167,77 @@ for stream in "$pairs" "$out/long.stream" "$out/endless.stream" /dev/null; do
     prints "./list, $stream onto a full device" 2 /dev/null to_full ./list "$stream"
     lines "./list, $stream onto a full device" 1
 done
+for text in "$names.tree" "$out/slash.tree"; do
+    prints "the program tree, $text onto a full device" 0 /dev/null to_full "${tree[@]}" <"$text"
+    lines "the program tree, $text onto a full device" 1
+    prints "./list, $text onto a full device" 2 /dev/null to_full ./list "$text" "$names.txt"
+    lines "./list, $text onto a full device" 1
+done
 
 # ---- with stand-ins
 
-# A repository of three rooms that the program needs and one that it does not; the host is said to be one that runs the stand-ins.
+# A repository of three rooms that the listing program needs, one more for the program tree, and one that neither does; the host is
+# said to be one that runs the stand-ins.
 copy=$out/copy
 mkdir -p "$copy/crates" "$copy/bin" && cp list "$copy"
-printf '# rooms\nlow:\nother: low\nmiddle: low io\nlist: middle libc\n' >"$copy/crates.txt"
+printf '# rooms\nlow:\nother: low\nmiddle: low io\nlist: middle libc\ntree: middle libc\n' >"$copy/crates.txt"
 # stand_in FILE: a program of these lines
 stand_in() { { echo '#!/bin/sh'; cat; } >"$1" && chmod +x "$1"; }
 echo 'echo x86_64' | stand_in "$copy/bin/uname"
 in_copy() { PATH=$PWD/$copy/bin:$PATH "$copy/list" "$pairs"; }
+# with a tree that is typed
+in_copy_typed() { PATH=$PWD/$copy/bin:$PATH "$copy/list" "$names.tree" "$pairs"; }
 log=$(readlink -f "$copy")/target/list.log
-begins="list: the program is proved and built first; the prover's words go to $log"
+# begins NAMES: what is said before all else
+begins() { echo "list: proved and built first: $1; the prover's words go to $log"; }
 proves() {
     stand_in "$copy/bin/rt" <<'LINES'
 echo "logic=proved and many words"
-for room in low middle list; do echo "rt: $room proved (1 s)"; done
-echo "rt: list ran, and wrote what its file 'stdout' has (0 s)"
-mkdir -p target/bin && cp bin/program target/bin/list
+mkdir -p target/bin && shift
+for room in low middle "$@"; do echo "rt: $room proved (1 s)"; done
+for name; do
+    echo "rt: $name ran, and wrote what its file 'stdout' has (0 s)"
+    cp "bin/stand_in_$name" "target/bin/$name"
+done
 LINES
 }
 
-printf 'printf "records 0\\nrows 0\\n"' | stand_in "$copy/bin/program"
+printf 'printf "records 0\\nrows 0\\n"' | stand_in "$copy/bin/stand_in_list"
+printf 'printf "\\1\\0"' | stand_in "$copy/bin/stand_in_tree"
 proves
 prints "not built yet" 0 <(printf 'records 0\nrows 0\n') in_copy
-same "one line a room" "$out/said" <(echo "$begins"; printf '%d of 3 rooms proved\n' 1 2 3)
+same "one line a room" "$out/said" <(begins list; printf '%d of 3 rooms proved\n' 1 2 3)
 same "the log" <(grep -c 'many words' "$log") <(echo 1)
 prints "built already" 0 <(printf 'records 0\nrows 0\n') in_copy
 lines "built already" 0
 touch "$copy/crates/changed"
 prints "a file that is newer" 0 <(printf 'records 0\nrows 0\n') in_copy
 lines "a file that is newer" 4
+prints "tree not built yet" 0 <(printf 'records 0\nrows 0\n') in_copy_typed
+same "only tree is built" "$out/said" <(begins tree; printf '%d of 3 rooms proved\n' 1 2 3)
+touch "$copy/crates/changed"
+prints "a file that is newer than both" 0 <(printf 'records 0\nrows 0\n') in_copy_typed
+same "both are built" "$out/said" <(begins 'list tree'; printf '%d of 4 rooms proved\n' 1 2 3 4)
+prints "both built already" 0 <(printf 'records 0\nrows 0\n') in_copy_typed
+lines "both built already" 0
 
 printf 'echo "records 1"; kill -SEGV $$' | stand_in "$copy/target/bin/list"
 prints "a signal" 139 <(echo 'records 1') in_copy
 true | stand_in "$copy/target/bin/list"
 prints "a program that says nothing" 2 /dev/null in_copy
 lines "a program that says nothing" 1
+printf 'kill -SEGV $$' | stand_in "$copy/target/bin/tree"
+prints "a signal in the program tree" 139 /dev/null in_copy_typed
+true | stand_in "$copy/target/bin/tree"
+prints "a program tree that says nothing" 2 /dev/null in_copy_typed
+lines "a program tree that says nothing" 1
+# so a write that fails is told
+printf 'printf "\\1"; echo "tree: not written" >&2' | stand_in "$copy/target/bin/tree"
+prints "a program tree that fails" 2 /dev/null in_copy_typed
+same "its words" "$out/said" <(echo "list: $names.tree: tree: not written")
 
 rm "$copy/target/bin/list"
 printf 'echo "rt: low proved (1 s)"; echo "rt: middle NOT PROVED (exit 1, 1 s)"; exit 1\n' | stand_in "$copy/bin/rt"
 prints "a room that is not proved" 2 /dev/null in_copy
-same "it names the log" "$out/said" <(echo "$begins"; echo "1 of 3 rooms proved"; echo "list: the program is not proved and built: see $log")
+same "it names the log" "$out/said" <(begins list; echo "1 of 3 rooms proved"; echo "list: not proved and built: see $log")
 end_checks
