@@ -12,11 +12,11 @@ to = $(DESTDIR)$(PREFIX)
 # What is installed. Another file that is named here is taken as it is.
 ARCHIVE = target/staticlib/libtarnsatchel.a
 PROGRAM = target/bin/list
-TREE_PROGRAM = target/bin/tree
+TREE = target/bin/tree
 # The version stands where cargo wants it, and in no second place by hand.
 VERSION := $(shell sed -n 's/^version = "\(.*\)"$$/\1/p' bindings/rust/Cargo.toml)
 
-all: $(ARCHIVE) $(PROGRAM) $(TREE_PROGRAM)
+all: $(ARCHIVE) $(PROGRAM) $(TREE)
 
 # Folders are among the sources: a file that is taken away makes its folder newer.
 SOURCES := crates.txt $(shell find crates)
@@ -45,7 +45,7 @@ check:
 install: all
 	install -d '$(to)/bin' '$(to)/include' '$(to)/lib/pkgconfig'
 	install -m 755 '$(PROGRAM)' '$(to)/bin/tarnsatchel-list'
-	install -m 755 '$(TREE_PROGRAM)' '$(to)/bin/tarnsatchel-tree'
+	install -m 755 '$(TREE)' '$(to)/bin/tarnsatchel-tree'
 	install -m 644 include/tarnsatchel.h bindings/fortran/tarnsatchel.f90 '$(to)/include'
 	install -m 644 '$(ARCHIVE)' '$(to)/lib/libtarnsatchel.a'
 	{ echo 'prefix=$(PREFIX)' && sed 's/@VERSION@/$(VERSION)/' tarnsatchel.pc.in; } >'$(to)/lib/pkgconfig/tarnsatchel.pc'

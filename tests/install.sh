@@ -2,7 +2,7 @@
 # Installs with the Makefile into folders of its own and uses what is there as README.md says, its commands letter by letter: in a
 # folder outside of the repository, where only pkg-config can tell what is where. What the programs print is held to what the
 # examples expect, which was worked out by hand. The last line is 'N passed, M failed'.
-# TARN_ARCHIVE=FILE, TARN_PROGRAM=FILE and TARN_TREE_PROGRAM=FILE have another archive, listing program and program `tree` installed.
+# TARN_ARCHIVE=FILE, TARN_PROGRAM=FILE and TARN_TREE=FILE have another archive, listing program and program `tree` installed.
 set -u
 cd "$(dirname "$0")/.." || exit 2
 . tests/host.sh
@@ -19,7 +19,7 @@ prefix=$away/prefix stage=$away/stage
 # makes WORDS ..: what follows cannot be tried where it fails
 makes() {
     make "$@" ${TARN_ARCHIVE:+"ARCHIVE=$TARN_ARCHIVE"} ${TARN_PROGRAM:+"PROGRAM=$TARN_PROGRAM"} \
-        ${TARN_TREE_PROGRAM:+"TREE_PROGRAM=$TARN_TREE_PROGRAM"} >"$out/make.log" 2>&1 </dev/null ||
+        ${TARN_TREE:+"TREE=$TARN_TREE"} >"$out/make.log" 2>&1 </dev/null ||
         give_up "make $*: $(tail -n 1 "$out/make.log") (see $out/make.log)"
 }
 # the files of a folder, each with its mode
