@@ -129,6 +129,15 @@ wrong_word() {
     same "$1 in a text: what is said" "$out/said" <(printf 'list: %s: line 3: %q is no number from 0 to 255\n' "$out/wrong.txt" "$1")
 }
 for word in 256 -1 05 x '*' 1.5 $'5\r'; do wrong_word "$word"; done
+prints "no room for a stream" 2 /dev/null env TMPDIR="$out/none" ./list "$names.tree" "$names.txt"
+lines "no room for a stream" 1
+prints "no room needed" 0 "$out/pairs" env TMPDIR="$out/none" ./list "$pairs"
+mkdir "$out/rooms"
+for files in "$names.tree $names.txt" "$out/slash.tree $names.txt" "$names.tree $out/wrong.txt"; do
+    # shellcheck disable=SC2086 # two words
+    TMPDIR=$out/rooms ./list $files >/dev/null 2>&1
+done
+same "what is left behind" <(ls "$out/rooms") /dev/null
 
 # ---- long listings
 
@@ -235,6 +244,16 @@ lines "a program tree that says nothing" 1
 printf 'printf "\\1"; echo "tree: not written" >&2' | stand_in "$copy/target/bin/tree"
 prints "a program tree that fails" 2 /dev/null in_copy_typed
 same "its words" "$out/said" <(echo "list: $names.tree: tree: not written")
+
+# on an Arm host the kit has an emulator beside rt
+there=$(readlink -f "$copy")
+beside=$there/on/aarch64/toolchain
+mkdir -p "$beside/bin" && echo 'echo aarch64' | stand_in "$copy/bin/uname"
+printf 'echo "$@" >>"$(dirname "$0")/ran"; shift 3; exec "$@"' | stand_in "$beside/bin/qemu-x86_64"
+cp "$copy/bin/stand_in_list" "$copy/target/bin/list" && cp "$copy/bin/stand_in_tree" "$copy/target/bin/tree"
+prints "an Arm host" 0 <(printf 'records 0\nrows 0\n') in_copy_typed
+same "both programs under the emulator" "$beside/bin/ran" \
+    <(for name in tree list; do echo "$beside/lib/ld-linux-x86-64.so.2 --library-path $beside/lib $there/target/bin/$name"; done)
 
 rm "$copy/target/bin/list"
 printf 'echo "rt: low proved (1 s)"; echo "rt: middle NOT PROVED (exit 1, 1 s)"; exit 1\n' | stand_in "$copy/bin/rt"
