@@ -100,7 +100,7 @@ prints "an empty stream" 1 <(echo 'refused 1') ./list /dev/null
 lines "an empty stream" 0
 prints "a stream that is too long" 1 <(echo 'refused 14') ./list <(head -c 16385 /dev/zero)
 prints "a query behind a query" 1 <(echo 'refused 3') ./list "$pairs" "$out/names.query"
-prints "a file without end" 1 <(echo 'refused 14') ./list "$names.tree" /dev/zero
+prints "a file without end" 1 <(echo 'refused 14') ./list /dev/null /dev/zero
 prints "a tree without a query" 1 <(echo 'refused 3') ./list "$names.tree"
 # a slash that is in no comment
 echo '9(5 / 6)' >"$out/slash.tree"
