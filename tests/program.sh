@@ -1,8 +1,8 @@
 #!/usr/bin/env bash
-# First the lines that are believed and not proved. Then ./list as a user runs it: README.md's own example letter by letter, files of
-# each kind, each exit status, a text that cannot be written or that nobody reads on; then, with stand-ins for the programs and for rt,
-# what it says while it proves and builds, and what it does where that fails. tests/compare.sh holds the programs' texts to the
-# independent programs. The last line is 'N passed, M failed'.
+# First the lines that are believed and not proved, and the tree program by itself. Then ./list as a user runs it: README.md's own example
+# letter by letter, files of each kind, each exit status, a text that cannot be written or that nobody reads on; then, with stand-ins
+# for the programs and for rt, what it says while it proves and builds, and what it does where that fails. tests/compare.sh holds what
+# the programs write to the independent programs. The last line is 'N passed, M failed'.
 set -u
 cd "$(dirname "$0")/.." || exit 2
 . tests/host.sh
@@ -77,7 +77,6 @@ same "README's tree" <(shown tree) "$names.tree"
 bash -c "$readme" >/dev/null 2>&1
 prints "README's example" 0 "$out/shown" bash -c "$readme"
 lines "README's example" 0
-tree=("${program_runner[@]}" target/bin/tree)
 bash examples/streams/bytes.sh <"$names.txt" >"$out/names.query"
 { "${tree[@]}" <"$names.tree" && cat "$out/names.query"; } >"$out/names.stream"
 
@@ -177,8 +176,6 @@ for stream in "$pairs" "$out/long.stream" "$out/endless.stream" /dev/null; do
     lines "./list, $stream onto a full device" 1
 done
 for text in "$names.tree" "$out/slash.tree"; do
-    prints "the program tree, $text onto a full device" 0 /dev/null to_full "${tree[@]}" <"$text"
-    lines "the program tree, $text onto a full device" 1
     prints "./list, $text onto a full device" 2 /dev/null to_full ./list "$text" "$names.txt"
     lines "./list, $text onto a full device" 1
 done
