@@ -8,10 +8,10 @@ use borrow.Author.Tests.{eqb-true, eqb-false, eq-eqb, ne-eqb, leb-true}
 use lib.Dec.{eqb, leb}
 use Rattle.laws.proofs.Lists.{both-true}
 use Rattle.paper.specs.BracketedText.{number}
-use Rattle.writings.specs.ReadText.{Symbol, symbolOf, Sign, digit, symbol, signOf, outside, inNumber}
-use Rattle.text.specs.Pass.{Kept, Step, faulty, going, step, State, refused, reading, within, afterSymbol, behind, oneMore, afterNumber, afterByte}
+use Rattle.writings.specs.ReadText.{Symbol, symbolOf, digit, symbol, signOf, outside, inNumber}
+use Rattle.text.specs.Pass.{Step, faulty, going, step, State, refused, reading, within, afterSymbol, behind, oneMore, afterByte}
 use Rattle.text.specs.Reading.{Reading, keptIn, stateIn, Room, Leaves, EndsNumber, numberEnded, uncommented, withDigit}
-use Rattle.text.proofs.Changes.{state-number, state-outside, state-refused}
+use Rattle.text.proofs.Changes.{room-in-mode, state-number, state-outside, state-refused}
 use Rattle.text.proofs.Symbols.{leaves-same}
 
 -- ---- a digit
@@ -87,16 +87,7 @@ module _ (s : Reading) (labels image : List ℕ) (room : Room s labels image) (g
     pub digit-read : (r : Reading) → r ≡ withDigit s d → Leaves (uncommented (afterByte (stateIn s labels image) b)) r labels image
     digit-read r e = subst (λ x. Leaves (uncommented (afterByte (stateIn s labels image) b)) x labels image) (sym e) (record {
       state = by-mode first-digit later-digit;
-      room = record {
-        labels-long = room .labels-long;
-        image-long = room .image-long;
-        mode = mode-fits;
-        few = room .few;
-        waiting = room .waiting;
-        waited = room .waited;
-        room = room .room;
-        before = room .before;
-      };
+      room = room-in-mode s labels image room digitMode mode-fits;
     })
 
   -- ---- a symbol
