@@ -8,7 +8,7 @@ use borrow.Author.Tests.{lt-ltb, le-ltb}
 use lib.ListN.{length, getD, drop, length-drop}
 use lib.Seq.{drop-cons, drop-length}
 use Rattle.text.specs.Pass.{branches, inner, outer}
-use Rattle.text.specs.Reading.{Written, Adds, Branches}
+use Rattle.text.specs.Reading.{Adds, Branches}
 use Rattle.text.proofs.Growing.{adds-nothing, adds-both}
 
 -- what is written, and what is still to come

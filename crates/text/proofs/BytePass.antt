@@ -1,19 +1,18 @@
 -- The pass over the bytes of a text gives the image of the tree that the text writes, and none if it writes none.
 -- First bytes against tokens, then the whole text.
-use mathlib.Core.Path.{_≡_, refl, sym, _∙_, ap}
+use mathlib.Core.Path.{_≡_, refl, sym, _∙_}
 use mathlib.Core.Bool.{Bool, true, false, cond}
 use mathlib.Core.List.{List, [], _∷_}
 use mathlib.Core.Option.{Option, none, some, Option·map}
 use Prim.Native.Nat.{ℕ, _+_, _*_}
 use lib.Dec.{eqb}
-use Rattle.paper.specs.WrittenTree.{WrittenTree}
 use Rattle.paper.specs.BracketedText.{Token, number, opening, closing}
 use Rattle.paper.specs.Image.{imageBytes}
 use Rattle.writings.specs.ReadText.{Symbol, isBlank, isLineEnd, isMark, isOpening, isClosing, isWrong, Sign, digit, symbol, signOf}
 use Rattle.writings.specs.ReadText.{Mode, outside, inNumber, inComment, put, fresh, numbered, byte, cutFrom, rootOf, readText}
 use Rattle.writings.proofs.Cutting.{found-cut}
 use Rattle.writings.proofs.Texts.{cut-fit}
-use Rattle.text.specs.Pass.{Kept, nothingKept, Step, faulty, going, step, State, refused, reading, within, afterSymbol, afterFresh, behind, oneMore, afterNumber, afterByte, imageFrom, imageOfText}
+use Rattle.text.specs.Pass.{Kept, nothingKept, Step, faulty, going, step, refused, reading, within, afterSymbol, afterFresh, behind, oneMore, afterNumber, afterByte, imageFrom, imageOfText}
 use Rattle.text.proofs.TokenPass.{stepOn, run, run-faulty, tokens-image}
 
 -- what comes of the tokens, if the bytes are some

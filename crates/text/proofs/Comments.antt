@@ -1,7 +1,7 @@
 -- A comment is passed over up to its end, and the pass goes on there as behind a blank.
 -- First the end of a comment in a text, then the pass.
-use mathlib.Core.Bool.{true, false, cond}
-use mathlib.Core.List.{List, [], _∷_}
+use mathlib.Core.Bool.{cond}
+use mathlib.Core.List.{List, _∷_}
 use mathlib.Core.Path.{_≡_, refl, sym, _∙_, ap, subst}
 use Prim.Native.Nat.{ℕ, suc, _+_, _≤_, _<_}
 use native.Mathlib.Numerals.{add-one}
@@ -10,10 +10,8 @@ use borrow.Author.Tests.{ne-eqb}
 use lib.ListN.{length, getD, drop}
 use lib.Seq.{drop-cons, drop-length}
 use Rattle.paper.specs.BracketedText.{Comment, text-ends, line-ends, goes-on}
-use Rattle.writings.specs.ReadText.{outside, inNumber, inComment}
-use Rattle.text.specs.Pass.{Kept, State, refused, reading, imageFrom}
-use Rattle.text.specs.Reading.{uncommented}
-use Rattle.text.proofs.BytePass.{refused-from}
+use Rattle.writings.specs.ReadText.{outside, inComment}
+use Rattle.text.specs.Pass.{Kept, reading, imageFrom}
 
 -- ---- where a comment ends
 module _ (text : List ℕ) (at : ℕ) where

@@ -4,10 +4,10 @@ use mathlib.Core.Path.{_≡_, refl, sym, _∙_, ap, subst}
 use Prim.Native.Nat.{ℕ}
 use borrow.Author.Tests.{ne-eqb}
 use Rattle.paper.specs.BracketedText.{opening, closing}
-use Rattle.writings.specs.ReadText.{Symbol, isWrong, symbolOf, outside}
+use Rattle.writings.specs.ReadText.{symbolOf, outside}
 use Rattle.text.specs.Pass.{Kept, Step, faulty, going, step, State, refused, reading, within, afterSymbol}
-use Rattle.text.specs.Reading.{Reading, keptIn, stateIn, stopped, Room, Leaves, uncommented}
-use Rattle.text.proofs.Changes.{leaves-stopped, state-outside}
+use Rattle.text.specs.Reading.{Reading, keptIn, Room, Leaves, uncommented}
+use Rattle.text.proofs.Changes.{state-outside}
 
 pub leaves-same : (r : Reading) (labels image : List ℕ) (before after : State) → Leaves before r labels image → before ≡ after → Leaves after r labels image
 leaves-same r labels image before after g e = subst (λ x. Leaves x r labels image) e g

@@ -16,7 +16,7 @@ use Rattle.writings.specs.ReadText.{Ending, forests, bracket, refused, numberBe
 use Rattle.laws.proofs.Lists.{both-true}
 use Rattle.writings.proofs.Images.{regrouped}
 use Rattle.writings.proofs.Texts.{Fit, closed-root-read}
-use Rattle.text.specs.Pass.{branches, opened, inner, outer, closed, Kept, nothingKept, Step, faulty, going, padIf, isFull, withNumber, withOpening, withClosing, siblingsEnded, step, isWhole, imageAt}
+use Rattle.text.specs.Pass.{branches, opened, inner, outer, closed, Kept, nothingKept, Step, faulty, going, padIf, isFull, withNumber, withClosing, step, imageAt}
 use Rattle.text.proofs.Endings.{balanced, roots, numbers, and-false, judged-accepts, accepted-judged}
 
 -- ---- what is still to be written

@@ -4,23 +4,22 @@ use mathlib.Core.Bool.{Bool, true, false, cond, not, _&&_, false≢true}
 use mathlib.Core.List.{List, [], _∷_}
 use mathlib.Core.Logic.{_⊎_, inl, inr}
 use mathlib.Core.Path.{_≡_, refl, sym, _∙_, ap, subst}
-use Prim.Native.Nat.{ℕ, suc, _+_, _-_, _*_, _≤_, _<_}
+use Prim.Native.Nat.{ℕ, _+_, _-_, _*_, _≤_, _<_}
 use native.Mathlib.Numerals.{add-one}
 use native.Mathlib.Omega.{arith}
 use borrow.Author.Tests.{ne-eqb, eqb-false, not-true}
 use lib.Dec.{eqb, leb}
-use lib.ListN.{length, getD, drop, take}
-use lib.Seq.{drop-cons, drop-length}
+use lib.ListN.{length, getD, drop}
+use lib.Seq.{drop-cons}
 use Rattle.paper.specs.BracketedText.{Comment, number, opening, closing}
-use Rattle.writings.specs.ReadText.{Symbol, isBlank, isLineEnd, isMark, isOpening, isClosing, isWrong, symbolOf, Sign, digit, symbol, signOf, outside, inNumber, inComment}
-use Rattle.text.specs.Pass.{Kept, nothingKept, Step, faulty, going, step, State, refused, reading, within, afterSymbol, afterFresh, behind, oneMore, afterNumber, afterByte, atEnd, imageAt, imageFrom, imageOfText}
+use Rattle.writings.specs.ReadText.{Symbol, isBlank, isLineEnd, isMark, isOpening, isClosing, isWrong, symbolOf, digit, symbol, signOf, outside, inNumber, inComment}
+use Rattle.text.specs.Pass.{Kept, Step, faulty, going, step, State, refused, reading, within, afterSymbol, afterFresh, behind, oneMore, afterNumber, afterByte, atEnd, imageAt, imageFrom, imageOfText}
 use Rattle.text.specs.Reading.{Reading, keptIn, stateIn, Room, start, Leaves, EndsNumber, numberEnded, uncommented, Ends}
 use Rattle.text.proofs.BytePass.{refused-from}
-use Rattle.text.proofs.Changes.{drop-past, state-refused}
+use Rattle.text.proofs.Changes.{drop-past, state-number, state-outside, state-refused}
 use Rattle.text.proofs.Comments.{in-comment}
 use Rattle.text.proofs.OneByte.{by-mode}
 use Rattle.text.proofs.Symbols.{within-outside}
-use Rattle.text.proofs.Changes.{state-number, state-outside}
 
 -- ---- no comment begins
 abbrev NoMark : Symbol → Type 0

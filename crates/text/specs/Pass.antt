@@ -3,7 +3,7 @@
 use mathlib.Core.Bool.{Bool, true, false, cond, _&&_, _||_}
 use mathlib.Core.List.{List, [], _∷_, _++_}
 use mathlib.Core.Option.{Option, none, some}
-use Prim.Native.Nat.{ℕ, suc, _+_, _*_, _-_}
+use Prim.Native.Nat.{ℕ, _+_, _*_, _-_}
 use lib.Dec.{eqb, leb, ltb}
 use Rattle.paper.specs.BracketedText.{Token, number, opening, closing}
 use Rattle.writings.specs.ReadText.{Symbol, isBlank, isLineEnd, isMark, isOpening, isClosing, isWrong, Sign, digit, symbol, signOf, Mode, outside, inNumber, inComment}

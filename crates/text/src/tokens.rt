@@ -1,12 +1,12 @@
 // What a number, an opening and a closing bracket change: what is kept, the labels that wait, the image.
-ghost use mathlib.Core.Path.{_≡_};
 ghost use mathlib.Core.Bool.{_&&_, _||_};
-ghost use lib.Dec.{eqb, leb, ltb};
+ghost use mathlib.Core.Path.{_≡_};
 ghost use Prim.Native.Nat.{_≤_, _<_};
+ghost use lib.Dec.{eqb, leb, ltb};
 ghost use lib.ListN.{length, getD};
 ghost use Rattle.paper.specs.BracketedText.{closing, opening};
 ghost use Rattle.writings.specs.ReadText.{outside};
-ghost use Rattle.text.specs.Pass.{isFull, step, within};
+ghost use Rattle.text.specs.Pass.{step, within};
 ghost use Rattle.text.specs.Reading.{Closes, EndsNumber, Leaves, Room, keptIn};
 use crate::reading::NO;
 use crate::reading::OUTSIDE;

@@ -1,14 +1,11 @@
+-- `pass::is_digit` meets its contract.
 use borrow.Author.Tests.{le-leb, lt-leb}
 use Rattle.text.proofs.pass.is_digit.Statement.{statement}
 use Rattle.text.proofs.pass.is_digit.Tie as tie
-use Rattle.text.proofs.pass.is_digit.Reads as reads
-use Rattle.text.proofs.pass.is_digit.Lts as lts
 
--- src/pass.rt:64:9
 returns : tie.Need-returns
 returns c = rw (lt-leb 48 (c .before .args .byte) (c .if1 .taken))
 
--- src/pass.rt:60:1
 returns-2 : tie.Need-returns-2
 returns-2 c = rw (le-leb 48 (c .before .args .byte) (c .if1 .left))
 

@@ -1,47 +1,36 @@
+-- `pass::read_digit` meets its contract: the tests, as far as they were made, say whether a number begins, goes on or is refused.
 use mathlib.Core.Path.{_∙_}
 use borrow.Author.Needs.{needs}
 use Rattle.text.proofs.Digits.{above-highest, leading-zero, number-begins, number-goes-on}
 use Rattle.text.proofs.pass.read_digit.Statement.{statement}
 use Rattle.text.proofs.pass.read_digit.Tie as tie
-use Rattle.text.proofs.pass.read_digit.Reads as reads
-use Rattle.text.proofs.pass.read_digit.Lts as lts
-use Rattle.text.proofs.reading.stop.Reads as stop-reads
 
--- src/pass.rt:29:9
 returns : tie.Need-returns
 returns c = number-begins _ _ (c .if1 .taken)
 
--- src/pass.rt:32:9
 stop-requires : tie.Need-stop-requires
 stop-requires c κs = search needs
 
--- src/pass.rt:32:9
 returns-2 : tie.Need-returns-2
 returns-2 c = c .stop .ensures ∙ leading-zero _ _ (c .before .before .before .if1 .left) (c .before .if2 .taken)
 
--- src/pass.rt:34:18
 mul-number : tie.Need-mul-number
 mul-number c = search needs
 
--- src/pass.rt:34:18
 add-number : tie.Need-add-number
 add-number c = search needs
 
--- src/pass.rt:35:17
 cast-if3 : tie.Need-cast-if3
 cast-if3 c = search needs
 
--- src/pass.rt:36:9
 stop-requires-2 : tie.Need-stop-requires-2
 stop-requires-2 c κs = search needs
 
--- src/pass.rt:36:9
 returns-3 : tie.Need-returns-3
 returns-3 c =
     let e = c .before .before .before in
     c .stop2 .ensures ∙ above-highest _ _ (e .before .before .if1 .left) (e .if2 .left) (c .before .if3 .taken)
 
--- src/pass.rt:22:1
 returns-4 : tie.Need-returns-4
 returns-4 c =
     let e = c .before .before in

@@ -1,67 +1,50 @@
+-- `pass::read_symbol` meets its contract: each byte of the `match` leaves what its symbol does, and every other byte is a wrong one.
 use borrow.Author.Needs.{needs}
 use Rattle.text.proofs.Changes.{leaves-stopped}
 use Rattle.text.proofs.Symbols.{blank-stays, closing-symbol, leaves-same, line-end-stays, mark-stays, opening-symbol, wrong-symbol}
 use Rattle.text.proofs.pass.read_symbol.Statement.{statement}
 use Rattle.text.proofs.pass.read_symbol.Tie as tie
-use Rattle.text.proofs.pass.read_symbol.Reads as reads
-use Rattle.text.proofs.pass.read_symbol.Lts as lts
-use Rattle.text.proofs.reading.stop.Reads as stop-reads
-use Rattle.text.proofs.tokens.close_brackets.Reads as close-brackets-reads
-use Rattle.text.proofs.tokens.open_brackets.Reads as open-brackets-reads
 
--- src/pass.rt:52:17
 open-brackets-requires : tie.Need-open-brackets-requires
 open-brackets-requires c κs = search needs
 
--- src/pass.rt:53:17
 close-brackets-requires : tie.Need-close-brackets-requires
 close-brackets-requires c κs = search needs
 
--- src/pass.rt:54:14
 stop-requires : tie.Need-stop-requires
 stop-requires c κs = search needs
 
--- src/pass.rt:44:1
 returns : tie.Need-returns
 returns c = let start = c .before .before .before in blank-stays _ _ _ (start .pre .0) (start .pre .1) _ (c .match .keys1)
 
--- src/pass.rt:44:1
 returns-2 : tie.Need-returns-2
 returns-2 c = let start = c .before .before .before in line-end-stays _ _ _ (start .pre .0) (start .pre .1) _ (c .match .keys2)
 
--- src/pass.rt:44:1
 returns-3 : tie.Need-returns-3
 returns-3 c = let start = c .before .before .before in mark-stays _ _ _ (start .pre .0) (start .pre .1) _ (c .match .keys3)
 
--- src/pass.rt:44:1
 same-length : tie.Need-same-length
 same-length c = search needs
 
--- src/pass.rt:44:1
 same-length-2 : tie.Need-same-length-2
 same-length-2 c = search needs
 
--- src/pass.rt:44:1
 returns-4 : tie.Need-returns-4
 returns-4 c =
     let call = c .before .before in
     leaves-same _ _ _ _ _ (call .open-brackets .ensures) (opening-symbol _ _ (call .before .before .before .match .keys4))
 
--- src/pass.rt:44:1
 same-length-3 : tie.Need-same-length-3
 same-length-3 c = search needs
 
--- src/pass.rt:44:1
 same-length-4 : tie.Need-same-length-4
 same-length-4 c = search needs
 
--- src/pass.rt:44:1
 returns-5 : tie.Need-returns-5
 returns-5 c =
     let call = c .before .before .before .before in
     leaves-same _ _ _ _ _ (call .close-brackets .ensures) (closing-symbol _ _ (call .before .before .before .match .keys5))
 
--- src/pass.rt:44:1
 returns-6 : tie.Need-returns-6
 returns-6 c =
     let rest = c .before .match .rest in

@@ -1,3 +1,4 @@
+-- `records::put_branches` meets its contract: the labels that the loop has gone over have their branches, and none of them is marked.
 use Prim.Native.Nat.{_-_}
 use borrow.Author.Needs.{needs}
 use borrow.Author.Tests.{ltb-false, ltb-true}
@@ -5,9 +6,6 @@ use lib.ListN.{length}
 use Rattle.text.proofs.Branching.{SoFar, branch-fits, branch-more, branches-begin, branches-end, branches-marked}
 use Rattle.text.proofs.records.put_branches.Statement.{statement}
 use Rattle.text.proofs.records.put_branches.Tie as tie
-use Rattle.text.proofs.records.put_branches.Reads as reads
-use Rattle.text.proofs.records.put_branches.Lts as lts
-use Rattle.text.proofs.records.put_record.Reads as put-record-reads
 
 abbrev Inv-loop : tie.InvT-loop
 Inv-loop labels first image₀ at next₀ end₀ image next end = SoFar labels first image₀ at image next end
@@ -15,54 +13,43 @@ Inv-loop labels first image₀ at next₀ end₀ image next end = SoFar labels f
 abbrev μ-loop : tie.MeasureT-loop
 μ-loop labels first image₀ at next₀ end₀ image next end = length labels - next
 
--- src/image.rt:52:5
 loop-holds : tie.Need-loop-holds Inv-loop μ-loop
 loop-holds c = branches-begin _ _ _ _ (c .before .before .pre .0)
 
--- src/image.rt:52:34
 shared-slice-read-if1 : tie.Need-shared-slice-read-if1 Inv-loop μ-loop
 shared-slice-read-if1 c = search needs
 
--- src/image.rt:53:52
 shared-slice-read-put-record : tie.Need-shared-slice-read-put-record Inv-loop μ-loop
 shared-slice-read-put-record c = search needs
 
--- src/image.rt:53:9
 put-record-requires : tie.Need-put-record-requires Inv-loop μ-loop
 put-record-requires c κs =
     let l = c .before .before .before .before in
     branch-fits _ _ _ _ _ _ _ (l .before .loop .inv) (l .loop-test .taken) (l .before .before .before .before .pre .1)
 
--- src/image.rt:54:9
 add-next : tie.Need-add-next Inv-loop μ-loop
 add-next c = search needs
 
--- src/image.rt:52:5
 loop-less : tie.Need-loop-less Inv-loop μ-loop
 loop-less c = search needs
 
--- src/image.rt:52:5
 loop-again : tie.Need-loop-again Inv-loop μ-loop
 loop-again c =
     let t = c .before .before .before .before .before in
     let l = t .before .before in
     branch-more _ _ _ _ _ _ _ (l .before .loop .inv) (l .loop-test .taken) (ltb-true _ _ (t .if1 .taken)) _ _ (c .before .before .put-record .ensures)
 
--- src/image.rt:46:1
 same-length : tie.Need-same-length Inv-loop μ-loop
 same-length c = c .before .before .before .loop .inv .added .long
 
--- src/image.rt:46:1
 returns : tie.Need-returns Inv-loop μ-loop
 returns c =
     let l = c .before .before in
     branches-marked _ _ _ _ _ _ _ (l .before .loop .inv) (l .loop-test .taken) (ltb-false _ _ (c .if1 .left))
 
--- src/image.rt:46:1
 same-length-2 : tie.Need-same-length-2 Inv-loop μ-loop
 same-length-2 c = c .before .loop .inv .added .long
 
--- src/image.rt:46:1
 returns-2 : tie.Need-returns-2 Inv-loop μ-loop
 returns-2 c = branches-end _ _ _ _ _ _ _ (c .before .loop .inv) (c .loop-test .left)
 

@@ -1,24 +1,18 @@
+-- `records::put_pad_if` meets its contract.
 use borrow.Author.Needs.{needs}
 use Rattle.text.proofs.Growing.{adds-no-pad, adds-pad}
 use Rattle.text.proofs.records.put_pad_if.Statement.{statement}
 use Rattle.text.proofs.records.put_pad_if.Tie as tie
-use Rattle.text.proofs.records.put_pad_if.Reads as reads
-use Rattle.text.proofs.records.put_pad_if.Lts as lts
-use Rattle.text.proofs.records.put_record.Reads as put-record-reads
 
--- src/image.rt:39:9
 put-record-requires : tie.Need-put-record-requires
 put-record-requires c κs = search needs
 
--- src/image.rt:39:9
 same-length : tie.Need-same-length
 same-length c = search needs
 
--- src/image.rt:39:9
 returns : tie.Need-returns
 returns c = adds-pad _ _ _ _ _ (c .before .before .before .before .if1 .taken) (c .before .before .put-record .ensures)
 
--- src/image.rt:34:1
 returns-2 : tie.Need-returns-2
 returns-2 c = adds-no-pad _ _ _ (c .if1 .left)
 

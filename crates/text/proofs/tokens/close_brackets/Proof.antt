@@ -1,43 +1,31 @@
+-- `tokens::close_brackets` meets its contract: the siblings inside the brackets end, and the label of the brackets is the next.
 use borrow.Author.Needs.{needs}
 use Rattle.text.proofs.Changes.{closing-closes, closing-stops}
 use Rattle.text.proofs.tokens.close_brackets.Statement.{statement}
 use Rattle.text.proofs.tokens.close_brackets.Tie as tie
-use Rattle.text.proofs.tokens.close_brackets.Reads as reads
-use Rattle.text.proofs.tokens.close_brackets.Lts as lts
-use Rattle.text.proofs.records.end_siblings.Reads as end-siblings-reads
-use Rattle.text.proofs.reading.stop.Reads as stop-reads
-use Rattle.text.proofs.tokens.close_first.Reads as close-first-reads
 
--- src/tokens.rt:96:9
 stop-requires : tie.Need-stop-requires
 stop-requires c κs = search needs
 
--- src/tokens.rt:96:9
 returns : tie.Need-returns
 returns c =
     closing-stops _ _ _ (c .before .before .before .before .before .pre .1) (c .before .if1 .taken) _ (c .stop .ensures)
 
--- src/tokens.rt:98:9
 end-siblings-requires : tie.Need-end-siblings-requires
 end-siblings-requires c κs = search needs
 
--- src/tokens.rt:99:5
 close-first-requires : tie.Need-close-first-requires
 close-first-requires c κs = search needs
 
--- src/tokens.rt:102:16
 sub-t13 : tie.Need-sub-t13
 sub-t13 c = search needs
 
--- src/tokens.rt:91:1
 same-length : tie.Need-same-length
 same-length c = search needs
 
--- src/tokens.rt:91:1
 same-length-2 : tie.Need-same-length-2
 same-length-2 c = search needs
 
--- src/tokens.rt:91:1
 returns-2 : tie.Need-returns-2
 returns-2 c =
     let f = c .before .before .before in

@@ -1,31 +1,24 @@
+-- `tokens::close_first` meets its contract: a label that waits, or none.
 use borrow.Author.Needs.{needs}
 use Rattle.text.proofs.Changes.{closes-first, closes-none}
 use Rattle.text.proofs.tokens.close_first.Statement.{statement}
 use Rattle.text.proofs.tokens.close_first.Tie as tie
-use Rattle.text.proofs.tokens.close_first.Reads as reads
-use Rattle.text.proofs.tokens.close_first.Lts as lts
 
--- src/tokens.rt:86:25
 slice-read-labels : tie.Need-slice-read-labels
 slice-read-labels c = search needs
 
--- src/tokens.rt:86:25
 sub-labels : tie.Need-sub-labels
 sub-labels c = c .before .before .pre (c .before .if1 .taken)
 
--- src/tokens.rt:86:9
 slice-write-labels : tie.Need-slice-write-labels
 slice-write-labels c = search needs
 
--- src/tokens.rt:81:1
 same-length : tie.Need-same-length
 same-length c = search needs
 
--- src/tokens.rt:81:1
 returns : tie.Need-returns
 returns c = closes-first _ _ (c .before .if1 .taken)
 
--- src/tokens.rt:81:1
 returns-2 : tie.Need-returns-2
 returns-2 c = closes-none _ _ (c .if1 .left)
 

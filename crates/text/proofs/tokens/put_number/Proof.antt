@@ -1,60 +1,45 @@
+-- `tokens::put_number` meets its contract: while there may be one number more, there is room for its label.
 use mathlib.Core.Path.{_∙_, sym}
 use borrow.Author.Needs.{needs}
 use Rattle.text.proofs.Changes.{label-waits, number-stops, number-waits}
 use Rattle.text.proofs.tokens.put_number.Statement.{statement}
 use Rattle.text.proofs.tokens.put_number.Tie as tie
-use Rattle.text.proofs.tokens.put_number.Reads as reads
-use Rattle.text.proofs.tokens.put_number.Lts as lts
-use Rattle.text.proofs.records.put_pad_if.Reads as put-pad-if-reads
-use Rattle.text.proofs.reading.stop.Reads as stop-reads
-use Rattle.text.proofs.tokens.is_full.Reads as is-full-reads
 
--- src/tokens.rt:30:8
 is-full-requires : tie.Need-is-full-requires
 is-full-requires c κs = search needs
 
--- src/tokens.rt:31:9
 stop-requires : tie.Need-stop-requires
 stop-requires c κs = search needs
 
--- src/tokens.rt:31:9
 returns : tie.Need-returns
 returns c =
     let k = c .before .before in
     let start = k .before .before .before in
     number-stops _ _ _ (start .pre .1) (start .pre .0) (sym (c .before .if1 .taken) ∙ k .is-full .ensures) _ (c .stop .ensures)
 
--- src/tokens.rt:33:17
 sub-first : tie.Need-sub-first
 sub-first c =
     let k = c .before .before in
     label-waits _ _ _ (k .before .before .before .pre .1) (sym (c .before .if1 .left) ∙ k .is-full .ensures)
 
--- src/tokens.rt:34:21
 cast-labels : tie.Need-cast-labels
 cast-labels c = search needs
 
--- src/tokens.rt:34:5
 slice-write-labels : tie.Need-slice-write-labels
 slice-write-labels c = search needs
 
--- src/tokens.rt:35:9
 put-pad-if-requires : tie.Need-put-pad-if-requires
 put-pad-if-requires c κs = search needs
 
--- src/tokens.rt:39:16
 add-t12 : tie.Need-add-t12
 add-t12 c = search needs
 
--- src/tokens.rt:26:1
 same-length : tie.Need-same-length
 same-length c = search needs
 
--- src/tokens.rt:26:1
 same-length-2 : tie.Need-same-length-2
 same-length-2 c = search needs
 
--- src/tokens.rt:26:1
 returns-2 : tie.Need-returns-2
 returns-2 c =
     let p = c .before .before .before in
