@@ -1,7 +1,8 @@
 #!/usr/bin/env bash
-# Edits of `paper` that its worked cases let pass and the theorems of `laws` must refuse. `rt must-fail` tries an edit on its own crate
-# only, so these are tried here: in a copy of the crates `paper` must still be proved and `laws` must not.
-# An edit file has the lines of a must-fail edit, and `at: NAME`, the theorem or lemma where the refusal must stand first.
+# Edits of `paper` that its worked cases let pass and the theorems of `laws`, or of `writings`, must refuse. `rt must-fail` tries an edit
+# on its own crate only, so these are tried here: in a copy of the crates those below must still be proved, and the one named must not.
+# An edit file has the lines of a must-fail edit, `in: CRATE` where that is not `laws`, and `at: NAME`, the theorem or lemma where the
+# refusal must stand first.
 set -u
 cd "$(dirname "$0")/.." || exit 2
 passed=0 failed=0
@@ -9,9 +10,16 @@ for edit in tests/across/*.edit; do
     label=$(basename "$edit" .edit)
     copy=$(mktemp -d) || exit 2
     mkdir -p "$copy/crates"
-    cp -R crates/paper crates/laws "$copy/crates/"
-    rm -rf "$copy/crates/paper/must-fail" "$copy/crates/laws/must-fail"
-    printf 'paper:\nlaws: paper\n' >"$copy/crates.txt"
+    crate=$(sed -n 's/^in: //p' "$edit")
+    case ${crate:=laws} in
+    laws) below='paper' ;;
+    writings) below='paper laws' ;;
+    esac
+    for room in $below "$crate"; do
+        cp -R "crates/$room" "$copy/crates/"
+        rm -rf "$copy/crates/$room/must-fail"
+        grep "^$room:" crates.txt >>"$copy/crates.txt"
+    done
     file=$(sed -n 's/^file: //p' "$edit")
     OLD=$(sed -n 's/^old: //p' "$edit") NEW=$(sed -n 's/^new: //p' "$edit") awk '
         { text = text $0 "\n" }
@@ -20,10 +28,12 @@ for edit in tests/across/*.edit; do
             if (!at) exit 3
             printf "%s%s%s", substr(text, 1, at - 1), ENVIRON["NEW"], substr(text, at + length(ENVIRON["OLD"]))
         }' "$copy/crates/paper/$file" >"$copy/edited" && mv "$copy/edited" "$copy/crates/paper/$file" || { echo "$label: BAD EDIT"; failed=$((failed + 1)); continue; }
-    (cd "$copy" && rt check laws) >"$copy/log" 2>&1
+    (cd "$copy" && rt check "$crate") >"$copy/log" 2>&1
+    proved=yes
+    for room in $below; do grep -q "^rt: $room proved" "$copy/log" || proved=no; done
     where=$(sed -n 's/^at: //p' "$edit")
     first=$(grep -m 1 ': error: ' "$copy/log")
-    if grep -q '^rt: paper proved' "$copy/log" && grep -q '^rt: laws NOT PROVED' "$copy/log" && case $first in *": error: \`$where\`"*) ;; *) false ;; esac; then
+    if [ "$proved" = yes ] && grep -q "^rt: $crate NOT PROVED" "$copy/log" && case $first in *": error: \`$where\`"*) ;; *) false ;; esac; then
         echo "$label: refused at $where, as it must be"
         passed=$((passed + 1))
     else
