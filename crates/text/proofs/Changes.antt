@@ -151,6 +151,13 @@ module _ (s : Reading) (labels image : List ℕ) (room : Room s labels image) wh
       go m = by (eqb (s .mode) 64) refl m
 
   -- ---- brackets
+  -- what is held inside the brackets, and behind them
+  abbrev inBrackets : Reading
+  inBrackets = record { mode = s .mode; depth = s .depth + 1; nodes = s .nodes; first = s .first; bytes = s .bytes; may = 0 }
+
+  abbrev behindBrackets : Written → Reading
+  behindBrackets r = record { mode = s .mode; depth = s .depth - 1; nodes = s .nodes; first = r .first; bytes = r .bytes; may = 0 }
+
   pub opening-stops : mayIn s ≡ false → (r : Reading) → r ≡ stopped s → Leaves (within outside (step (keptIn s labels image) opening)) r labels image
   opening-stops h =
       leaves-stopped (within outside (step (keptIn s labels image) opening))
@@ -158,9 +165,6 @@ module _ (s : Reading) (labels image : List ℕ) (room : Room s labels image) wh
 
   pub label-inside : mayIn s ≡ true → s .first < length labels
   label-inside h = omega (arith, room .before h .0, room .labels-long)
-
-  abbrev inBrackets : Reading
-  inBrackets = record { mode = s .mode; depth = s .depth + 1; nodes = s .nodes; first = s .first; bytes = s .bytes; may = 0 }
 
   pub opening-opens : s .mode ≡ 64 → mayIn s ≡ true
       → Leaves (within outside (step (keptIn s labels image) opening)) inBrackets
@@ -191,9 +195,6 @@ module _ (s : Reading) (labels image : List ℕ) (room : Room s labels image) wh
   closing-stops h =
       leaves-stopped (within outside (step (keptIn s labels image) closing))
       (ap (λ x. within outside (cond x faulty (going (withClosing (keptIn s labels image))))) (eq-eqb (s .depth) 0 h))
-
-  abbrev behindBrackets : Written → Reading
-  behindBrackets r = record { mode = s .mode; depth = s .depth - 1; nodes = s .nodes; first = r .first; bytes = r .bytes; may = 0 }
 
   pub closing-closes : s .mode ≡ 64 → (s .depth ≡ 0 → ⊥) → (r : Written) (labels′ image′ : List ℕ) → Ended s labels image r image′
       → Closes labels (r .first) labels′

@@ -1,10 +1,10 @@
 -- What `text_to_tree` tells and leaves is what the request says of the text: a refusal, or the image of the tree that it writes.
 -- First a text that is not whole, then the bytes of one that is, then the two answers that these have.
-use mathlib.Core.Bool.{Bool, true, false, cond, _&&_}
-use mathlib.Core.List.{List}
+use mathlib.Core.Bool.{Bool, true, false, _&&_}
+use mathlib.Core.List.{List, [], _∷_}
 use mathlib.Core.Option.{Option, none, some, Option·map, Option·none-ne-some, Option·some-injective}
 use mathlib.Core.Path.{_≡_, refl, sym, _∙_, ap}
-use Prim.Native.Nat.{ℕ, _≤_, _<_}
+use Prim.Native.Nat.{ℕ, zero, suc, _≤_, _<_}
 use native.Mathlib.Omega.{arith}
 use borrow.Author.Tests.{eqb-true, eqb-false}
 use lib.Dec.{eqb, ltb}
@@ -25,6 +25,12 @@ use Rattle.text.specs.Pass.{atEnd, imageOfText, siblingsEnded}
 use Rattle.text.specs.Reading.{Reading, Written, keptIn, stateIn, Ended, Ends}
 use Rattle.text.proofs.BytePass.{text-image}
 use Rattle.text.proofs.Changes.{state-outside, state-refused}
+
+-- the first bytes of a buffer fit where so many do
+pub part-fits : (bytes : ℕ) (image : List ℕ) (room : ℕ) → bytes ≤ room → length (take bytes image) ≤ room
+part-fits zero image room h = omega arith
+part-fits (suc bytes) [] room h = omega arith
+part-fits (suc bytes) (x ∷ image) room h = omega (arith, part-fits bytes image bytes (omega arith), h)
 
 module _ (text : List ℕ) (s : Reading) (labels image : List ℕ) (e : Ends text s labels image) where
   abbrev whole : Bool
