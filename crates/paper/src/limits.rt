@@ -7,6 +7,9 @@ pub const MOST_NODES: usize = 4095;
 // The label of a node, and of a rule.
 pub const HIGHEST_LABEL: u8 = 63;
 
+// The label of a pad: a leaf that stands for a missing first child or next sibling (request 2026-01).
+pub const PAD_LABEL: u8 = 0;
+
 // Places of a row: the arity of a query. So a flag is below 16.
 pub const MOST_PLACES: usize = 4;
 

@@ -12,7 +12,7 @@ use lib.Seq.{drop-at, drop-cons, drop-nil, getD-set-same, length-take-le, set-sp
 use Rattle.paper.specs.BracketedText.{opening, closing}
 use Rattle.writings.specs.ReadText.{outside, inNumber}
 use Rattle.text.specs.Pass.{withNumber, withOpening, withClosing, faulty, going, step, State, reading, refused, within, padIf, opened, closed, outer}
-use Rattle.text.specs.Reading.{Reading, Written, mayIn, keptIn, modeIn, stateIn, Room, one, stopped, Adds, Ended, Leaves, Closes, numberEnded, EndsNumber}
+use Rattle.text.specs.Reading.{Reading, Grown, mayIn, keptIn, modeIn, stateIn, Room, one, stopped, Adds, Ended, Leaves, Closes, numberEnded, EndsNumber}
 use Rattle.text.proofs.SiblingsEnd.{pad-length}
 
 -- ---- the labels
@@ -155,7 +155,7 @@ module _ (s : Reading) (labels image : List ℕ) (room : Room s labels image) wh
   abbrev inBrackets : Reading
   inBrackets = record { mode = s .mode; depth = s .depth + 1; nodes = s .nodes; first = s .first; bytes = s .bytes; may = 0 }
 
-  abbrev behindBrackets : Written → Reading
+  abbrev behindBrackets : Grown → Reading
   behindBrackets r = record { mode = s .mode; depth = s .depth - 1; nodes = s .nodes; first = r .first; bytes = r .bytes; may = 0 }
 
   pub opening-stops : mayIn s ≡ false → (r : Reading) → r ≡ stopped s → Leaves (within outside (step (keptIn s labels image) opening)) r labels image
@@ -196,7 +196,7 @@ module _ (s : Reading) (labels image : List ℕ) (room : Room s labels image) wh
       leaves-stopped (within outside (step (keptIn s labels image) closing))
       (ap (λ x. within outside (cond x faulty (going (withClosing (keptIn s labels image))))) (eq-eqb (s .depth) 0 h))
 
-  pub closing-closes : s .mode ≡ 64 → (s .depth ≡ 0 → ⊥) → (r : Written) (labels′ image′ : List ℕ) → Ended s labels image r image′
+  pub closing-closes : s .mode ≡ 64 → (s .depth ≡ 0 → ⊥) → (r : Grown) (labels′ image′ : List ℕ) → Ended s labels image r image′
       → Closes labels (r .first) labels′
       → Leaves (within outside (step (keptIn s labels image) closing)) (behindBrackets r) labels′ image′
   closing-closes m deep r labels′ image′ g c = record {

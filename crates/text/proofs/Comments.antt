@@ -11,7 +11,7 @@ use lib.ListN.{length, getD, drop}
 use lib.Seq.{drop-cons, drop-length}
 use Rattle.paper.specs.BracketedText.{Comment, text-ends, line-ends, goes-on}
 use Rattle.writings.specs.ReadText.{outside, inComment}
-use Rattle.text.specs.Pass.{Kept, reading, imageFrom}
+use Rattle.text.specs.Pass.{Kept, reading, imageBehind}
 
 -- ---- where a comment ends
 module _ (text : List ℕ) (at : ℕ) where
@@ -51,8 +51,8 @@ module _ (text : List ℕ) (at : ℕ) where
       )
 
 -- ---- the pass
-pub in-comment : {t rest : List ℕ} → Comment t rest → (k : Kept) → imageFrom (reading inComment k) t ≡ imageFrom (reading outside k) rest
+pub in-comment : {t rest : List ℕ} → Comment t rest → (k : Kept) → imageBehind (reading inComment k) t ≡ imageBehind (reading outside k) rest
 in-comment text-ends k = refl
 in-comment line-ends k = refl
 in-comment (goes-on {b} {t} other g) k =
-    ap (λ x. imageFrom (reading (cond x outside inComment) k) t) (ne-eqb b 10 other) ∙ in-comment g k
+    ap (λ x. imageBehind (reading (cond x outside inComment) k) t) (ne-eqb b 10 other) ∙ in-comment g k

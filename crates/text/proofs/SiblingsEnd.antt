@@ -6,7 +6,7 @@ use Prim.Native.Nat.{ℕ, _+_, _*_, _≤_}
 use native.Mathlib.Omega.{arith}
 use lib.ListN.{length, drop, length-drop}
 use Rattle.text.specs.Pass.{branches, inner, padIf}
-use Rattle.text.specs.Reading.{Reading, Written, mayIn, Room, Adds, Branches, Ended, one}
+use Rattle.text.specs.Reading.{Reading, Grown, mayIn, Room, Adds, Branches, Ended, one}
 use Rattle.text.proofs.Growing.{adds-both}
 
 pub pad-length : (may : Bool) → length (padIf may) ≡ 2 * one may
@@ -41,7 +41,7 @@ module _ (s : Reading) (labels image : List ℕ) (room : Room s labels image) wh
         ),
       )
 
-      pub siblings-end : (r : Written) (image‴ : List ℕ) → Branches labels (s .first) image″ sibling r image‴ → Ended s labels image r image‴
+      pub siblings-end : (r : Grown) (image‴ : List ℕ) → Branches labels (s .first) image″ sibling r image‴ → Ended s labels image r image‴
       siblings-end r image‴ b =
           let all =
           adds-both (padIf (mayIn s)) (1 ∷ 0 ∷ branches (inner (drop (s .first) labels))) (s .bytes) image child image′ (r .bytes) image‴ g

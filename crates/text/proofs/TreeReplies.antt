@@ -22,7 +22,7 @@ use Rattle.writings.specs.ReadText.{readText}
 use Rattle.writings.proofs.Texts.{read-writes, writes-read}
 use Rattle.text.specs.Face.{MakesTree}
 use Rattle.text.specs.Pass.{atEnd, imageOfText, siblingsEnded}
-use Rattle.text.specs.Reading.{Reading, Written, keptIn, stateIn, Ended, Ends}
+use Rattle.text.specs.Reading.{Reading, Grown, keptIn, stateIn, Ended, Ends}
 use Rattle.text.proofs.BytePass.{text-image}
 use Rattle.text.proofs.Changes.{state-outside, state-refused}
 
@@ -56,7 +56,7 @@ module _ (text : List ℕ) (s : Reading) (labels image : List ℕ) (e : Ends tex
           (sym (not-whole (sym h)) ∙ text-image text ∙ ap (Option·map imageBytes) (writes-read text w g))
 
   -- ---- one that is
-  module _ (h : true ≡ whole) (r : Written) (image′ : List ℕ) (g : Ended s labels image r image′) where
+  module _ (h : true ≡ whole) (r : Grown) (image′ : List ℕ) (g : Ended s labels image r image′) where
     made : some (siblingsEnded (keptIn s labels image)) ≡ Option·map imageBytes (readText text)
     made =
         let (m, f) = both-true (eqb (s .mode) 64) (eqb (s .depth) 0 && ltb 0 (s .nodes)) (sym h) in

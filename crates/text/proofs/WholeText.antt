@@ -13,7 +13,7 @@ use lib.ListN.{length, getD, drop}
 use lib.Seq.{drop-cons}
 use Rattle.paper.specs.BracketedText.{Comment, number, opening, closing}
 use Rattle.writings.specs.ReadText.{Symbol, isBlank, isLineEnd, isMark, isOpening, isClosing, isWrong, symbolOf, digit, symbol, signOf, outside, inNumber, inComment}
-use Rattle.text.specs.Pass.{Kept, Step, faulty, going, step, State, refused, reading, within, afterSymbol, afterFresh, behind, oneMore, afterNumber, afterByte, atEnd, imageAt, imageFrom, imageOfText}
+use Rattle.text.specs.Pass.{Kept, Step, faulty, going, step, State, refused, reading, within, afterSymbol, afterFresh, behind, oneMore, afterNumber, afterByte, atEnd, imageAt, imageBehind, imageOfText}
 use Rattle.text.specs.Reading.{Reading, keptIn, stateIn, Room, start, Leaves, EndsNumber, numberEnded, uncommented, Ends}
 use Rattle.text.proofs.BytePass.{refused-from}
 use Rattle.text.proofs.Changes.{drop-past, state-number, state-outside, state-refused}
@@ -74,21 +74,21 @@ number-stays b h n k = go (leb 48 b && leb b 57)
     go false = behind-stays (symbolOf b) (no-mark b h) (step k (number n))
 
 -- ---- a comment begins
-behind-mark : {t rest : List ℕ} → Comment t rest → (s : Step) → imageFrom (behind isMark s) t ≡ imageFrom (uncommented (behind isMark s)) rest
+behind-mark : {t rest : List ℕ} → Comment t rest → (s : Step) → imageBehind (behind isMark s) t ≡ imageBehind (uncommented (behind isMark s)) rest
 behind-mark {t} {rest} g faulty = refused-from t ∙ sym (refused-from rest)
 behind-mark g (going k) = in-comment g k
 
 -- ---- the loop
 pub record SoFar (text : List ℕ) (s : Reading) (labels image : List ℕ) (at : ℕ) : Type 0 where
   pub inside : at ≤ length text
-  pub to-come : imageFrom (stateIn s labels image) (drop at text) ≡ imageOfText text
+  pub to-come : imageBehind (stateIn s labels image) (drop at text) ≡ imageOfText text
   pub room : Room s labels image
 
 pub text-begins : (text labels image : List ℕ) → length labels ≡ 2047 → length image ≡ 8190 → (s : Reading) → s ≡ start
     → SoFar text s labels image 0
 text-begins text labels image long-labels long-image s e = subst (λ x. SoFar text x labels image 0) (sym e) (record {
   inside = omega arith;
-  to-come = ap (λ x. imageFrom (reading outside (record { may = false; depth = 0; nodes = 0; waiting = x; image = [] })) text) none;
+  to-come = ap (λ x. imageBehind (reading outside (record { may = false; depth = 0; nodes = 0; waiting = x; image = [] })) text) none;
   room = record {
     labels-long = long-labels;
     image-long = long-image;
@@ -114,16 +114,16 @@ module _ (text : List ℕ) (s : Reading) (labels image : List ℕ) (at : ℕ) (s
   abbrev b : ℕ
   b = getD text at 0
 
-  next : imageFrom (afterByte (stateIn s labels image) b) (drop (at + 1) text) ≡ imageOfText text
+  next : imageBehind (afterByte (stateIn s labels image) b) (drop (at + 1) text) ≡ imageOfText text
   next =
       let first : drop at text ≡ b ∷ drop (at + 1) text = rw (add-one, drop-cons text at 0) in
-      ap (imageFrom (stateIn s labels image)) (sym first) ∙ so-far .to-come
+      ap (imageBehind (stateIn s labels image)) (sym first) ∙ so-far .to-come
 
   module _ (r : Reading) (labels′ image′ : List ℕ) (g : Leaves (uncommented (afterByte (stateIn s labels image) b)) r labels′ image′) where
     pub byte-read : (b ≡ 33 → ⊥) → SoFar text r labels′ image′ (at + 1)
     byte-read other = record {
       inside = omega arith;
-      to-come = ap (λ x. imageFrom x (drop (at + 1) text)) (g .state ∙ sym stays) ∙ next;
+      to-come = ap (λ x. imageBehind x (drop (at + 1) text)) (g .state ∙ sym stays) ∙ next;
       room = g .room;
     }
       where
@@ -136,12 +136,12 @@ module _ (text : List ℕ) (s : Reading) (labels image : List ℕ) (at : ℕ) (s
         → SoFar text r labels′ image′ end
     comment-read mark end (after, before, comment) = record {
       inside = before;
-      to-come = ap (λ x. imageFrom x (drop end text)) (g .state) ∙ sym passed ∙ next;
+      to-come = ap (λ x. imageBehind x (drop end text)) (g .state) ∙ sym passed ∙ next;
       room = g .room;
     }
       where
-        passed : imageFrom (afterByte (stateIn s labels image) b) (drop (at + 1) text)
-            ≡ imageFrom (uncommented (afterByte (stateIn s labels image) b)) (drop end text)
+        passed : imageBehind (afterByte (stateIn s labels image) b) (drop (at + 1) text)
+            ≡ imageBehind (uncommented (afterByte (stateIn s labels image) b)) (drop end text)
         passed = by-mode s labels image (so-far .room) going-on
             (λ out. rw (state-outside s labels image out, mark) (in-comment comment (keptIn s labels image)))
             (λ low. rw (state-number s labels image low, mark) (behind-mark comment (step (keptIn s labels image) (number (s .mode)))))
@@ -167,7 +167,7 @@ text-ends text s labels image at so-far over r labels′ image′ g = record {
 }
   where
     whole : (length text ≤ at) ⊎ (s .mode ≡ 65) → atEnd (stateIn s labels image) ≡ imageOfText text
-    whole (inl h) = ap (imageFrom (stateIn s labels image)) (sym (drop-past text at h)) ∙ so-far .to-come
+    whole (inl h) = ap (imageBehind (stateIn s labels image)) (sym (drop-past text at h)) ∙ so-far .to-come
     whole (inr m) =
         let no : stateIn s labels image ≡ refused = state-refused s labels image m in
-        ap atEnd no ∙ sym (refused-from (drop at text)) ∙ ap (λ x. imageFrom x (drop at text)) (sym no) ∙ so-far .to-come
+        ap atEnd no ∙ sym (refused-from (drop at text)) ∙ ap (λ x. imageBehind x (drop at text)) (sym no) ∙ so-far .to-come

@@ -1,4 +1,5 @@
 pub mod Face
+pub mod Bounds
 pub mod Pass
 pub mod Reading
 pub mod JudgeImage

@@ -7,6 +7,7 @@ use Prim.Native.Nat.{ℕ, _+_, _*_, _-_}
 use lib.Dec.{eqb, leb, ltb}
 use Rattle.paper.specs.BracketedText.{Token, number, opening, closing}
 use Rattle.writings.specs.ReadText.{Symbol, isBlank, isLineEnd, isMark, isOpening, isClosing, isWrong, Sign, digit, symbol, signOf, Mode, outside, inNumber, inComment}
+use Rattle.text.specs.Bounds.{mostWritten}
 
 -- ---- the labels that wait
 -- They stand in one list, the last label first, with 64 more where the label's own brackets are open. A branch is written when its
@@ -59,7 +60,7 @@ padIf may = cond may (1 ∷ 0 ∷ []) []
 
 -- no number may follow: there is a root already, or there are 2,047 written nodes
 abbrev pub isFull : Kept → Bool
-isFull k = (eqb (k .depth) 0 && ltb 0 (k .nodes)) || leb 2047 (k .nodes)
+isFull k = (eqb (k .depth) 0 && ltb 0 (k .nodes)) || leb mostWritten (k .nodes)
 
 abbrev pub withNumber : ℕ → Kept → Kept
 withNumber l k = record {
@@ -150,9 +151,9 @@ atEnd (reading (inNumber n) k) = imageAt (step k (number n))
 atEnd (reading inComment k) = wholeImage k
 
 -- the image of a text, of which these bytes are still to come
-abbrev pub imageFrom : State → List ℕ → Option (List ℕ)
-imageFrom s [] = atEnd s
-imageFrom s (b ∷ t) = imageFrom (afterByte s b) t
+abbrev pub imageBehind : State → List ℕ → Option (List ℕ)
+imageBehind s [] = atEnd s
+imageBehind s (b ∷ t) = imageBehind (afterByte s b) t
 
 abbrev pub imageOfText : List ℕ → Option (List ℕ)
-imageOfText text = imageFrom (reading outside nothingKept) text
+imageOfText text = imageBehind (reading outside nothingKept) text

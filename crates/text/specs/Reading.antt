@@ -8,9 +8,10 @@ use lib.Dec.{eqb, ltb}
 use lib.ListN.{length, getD, take, drop}
 use Rattle.writings.specs.ReadText.{Mode, outside, inNumber, inComment}
 use Rattle.paper.specs.BracketedText.{number}
+use Rattle.text.specs.Bounds.{betweenTokens, longestImage, mostWritten, refusedMode}
 use Rattle.text.specs.Pass.{Kept, State, refused, reading, within, inner, outer, closed, branches, siblingsEnded, step, oneMore, atEnd, imageOfText}
 pub use Rattle.text.specs.declared.reading.Reading.{Reading}
-pub use Rattle.text.specs.declared.records.Written.{Written}
+pub use Rattle.text.specs.declared.records.Grown.{Grown}
 
 -- ---- what is held
 -- a number stands just before
@@ -26,12 +27,12 @@ keptIn s labels image = record {
   image = take (s .bytes) image;
 }
 
--- a number is its own mode, 64 is between tokens, 65 a refusal. Comments are passed over, so there is no mode for them
+-- a number is its own mode. Comments are passed over, so there is no mode for them
 abbrev pub modeIn : ℕ → Mode
-modeIn n = cond (ltb n 64) (inNumber n) outside
+modeIn n = cond (ltb n betweenTokens) (inNumber n) outside
 
 abbrev pub stateIn : Reading → List ℕ → List ℕ → State
-stateIn s labels image = cond (eqb (s .mode) 65) refused (reading (modeIn (s .mode)) (keptIn s labels image))
+stateIn s labels image = cond (eqb (s .mode) refusedMode) refused (reading (modeIn (s .mode)) (keptIn s labels image))
 
 -- ---- the room
 abbrev pub one : Bool → ℕ
@@ -40,21 +41,21 @@ one b = cond b 1 0
 -- Every written node has waited, or waits, for its branch; and each has its pad, or a number just before it or open brackets of its
 -- own in which the pad is still to come. So the image has at most four bytes a node
 pub record Room (s : Reading) (labels image : List ℕ) : Type 0 where
-  pub labels-long : length labels ≡ 2047
-  pub image-long : length image ≡ 8190
-  pub mode : s .mode ≤ 65
-  pub few : s .nodes ≤ 2047
-  pub waiting : s .first ≤ 2047
-  pub waited : 2047 ≤ s .nodes + s .first
-  pub room : s .bytes + 2 * one (mayIn s) + 2 * s .depth + 4094 ≡ 4 * s .nodes + 2 * s .first
-  pub before : mayIn s ≡ true → (s .first < 2047) × (getD labels (s .first) 0 < 64)
+  pub labels-long : length labels ≡ mostWritten
+  pub image-long : length image ≡ longestImage
+  pub mode : s .mode ≤ refusedMode
+  pub few : s .nodes ≤ mostWritten
+  pub waiting : s .first ≤ mostWritten
+  pub waited : mostWritten ≤ s .nodes + s .first
+  pub room : s .bytes + 2 * one (mayIn s) + 2 * s .depth + 2 * mostWritten ≡ 4 * s .nodes + 2 * s .first
+  pub before : mayIn s ≡ true → (s .first < mostWritten) × (getD labels (s .first) 0 < betweenTokens)
 
 -- before the first byte, and after a fault
 abbrev pub start : Reading
-start = record { mode = 64; depth = 0; nodes = 0; first = 2047; bytes = 0; may = 0 }
+start = record { mode = betweenTokens; depth = 0; nodes = 0; first = mostWritten; bytes = 0; may = 0 }
 
 abbrev pub stopped : Reading → Reading
-stopped s = record { mode = 65; depth = s .depth; nodes = s .nodes; first = s .first; bytes = s .bytes; may = s .may }
+stopped s = record { mode = refusedMode; depth = s .depth; nodes = s .nodes; first = s .first; bytes = s .bytes; may = s .may }
 
 -- ---- the image
 -- these bytes stand behind the first `at` of a buffer, which stays as long, and the end is told
@@ -64,20 +65,20 @@ pub record Adds (bytes : List ℕ) (at : ℕ) (image : List ℕ) (end : ℕ) (im
   pub long : length image′ ≡ length image
 
 -- the branches of the inner labels are written, and the outer ones still wait, the first of them with its brackets open
-pub record Branches (labels : List ℕ) (first : ℕ) (image : List ℕ) (at : ℕ) (r : Written) (image′ : List ℕ) : Type 0 where
+pub record Branches (labels : List ℕ) (first : ℕ) (image : List ℕ) (at : ℕ) (r : Grown) (image′ : List ℕ) : Type 0 where
   pub added : Adds (branches (inner (drop first labels))) at image (r .bytes) image′
   pub left : drop (r .first) labels ≡ outer (drop first labels)
-  pub marked : r .first < length labels → 64 ≤ getD labels (r .first) 0
+  pub marked : r .first < length labels → betweenTokens ≤ getD labels (r .first) 0
   pub onward : first ≤ r .first
   pub inside : r .first ≤ length labels
   pub counted : r .bytes + 2 * first ≡ at + 2 * r .first
 
 -- and before them the pads
-pub record Ended (s : Reading) (labels image : List ℕ) (r : Written) (image′ : List ℕ) : Type 0 where
+pub record Ended (s : Reading) (labels image : List ℕ) (r : Grown) (image′ : List ℕ) : Type 0 where
   pub stands : take (r .bytes) image′ ≡ siblingsEnded (keptIn s labels image)
   pub long : length image′ ≡ length image
   pub left : drop (r .first) labels ≡ outer (drop (s .first) labels)
-  pub marked : r .first < length labels → 64 ≤ getD labels (r .first) 0
+  pub marked : r .first < length labels → betweenTokens ≤ getD labels (r .first) 0
   pub onward : s .first ≤ r .first
   pub inside : r .first ≤ length labels
   pub counted : r .bytes + 2 * s .first ≡ s .bytes + 2 * one (mayIn s) + 2 + 2 * r .first
@@ -102,7 +103,7 @@ numberEnded (reading inComment k) = reading outside k
 
 pub record EndsNumber (s : Reading) (labels image : List ℕ) (r : Reading) (labels′ image′ : List ℕ) : Type 0 where
   pub leaves : Leaves (numberEnded (stateIn s labels image)) r labels′ image′
-  pub between : 64 ≤ r .mode
+  pub between : betweenTokens ≤ r .mode
 
 -- a comment is passed over
 abbrev pub uncommented : State → State
@@ -114,7 +115,7 @@ uncommented (reading inComment k) = reading outside k
 -- one more digit
 abbrev pub withDigit : Reading → ℕ → Reading
 withDigit s d = record {
-  mode = cond (eqb (s .mode) 64) d (cond (oneMore (s .mode) d) (10 * s .mode + d) 65);
+  mode = cond (eqb (s .mode) betweenTokens) d (cond (oneMore (s .mode) d) (10 * s .mode + d) refusedMode);
   depth = s .depth;
   nodes = s .nodes;
   first = s .first;
@@ -126,5 +127,5 @@ withDigit s d = record {
 -- what stands in the end: a refusal, or no number is being read and what is kept makes the image
 pub record Ends (text : List ℕ) (r : Reading) (labels′ image′ : List ℕ) : Type 0 where
   pub image : atEnd (stateIn r labels′ image′) ≡ imageOfText text
-  pub between : 64 ≤ r .mode
+  pub between : betweenTokens ≤ r .mode
   pub room : Room r labels′ image′

@@ -10,6 +10,7 @@ use Rattle.paper.specs.BracketedText.{decimal}
 use Rattle.paper.specs.CanonicalText.{textOf}
 use Rattle.paper.specs.Conversions.{Images}
 use Rattle.paper.specs.WrittenTree.{WrittenTree}
+use Rattle.text.specs.Bounds.{longestText, mostWritten}
 pub use Rattle.text.specs.declared.canonical.Writing.{Writing}
 use Rattle.text.specs.WriteText.{Waiting, others, children, inside, blankIf, completed, missing, met}
 
@@ -33,8 +34,8 @@ back bytes (suc n) = getD bytes n 0 ∷ back bytes n
 -- so many bytes have room before the start
 pub record HasRoom (bytes start : ℕ) (text : List ℕ) : Type 0 where
   pub enough : bytes ≤ start
-  pub inside : start ≤ 8188
-  pub long : length text ≡ 8188
+  pub inside : start ≤ longestText
+  pub long : length text ≡ longestText
 
 -- these bytes stand now before those from the old start on
 pub record Puts (bytes : List ℕ) (start : ℕ) (text : List ℕ) (start′ : ℕ) (text′ : List ℕ) : Type 0 where
@@ -49,8 +50,8 @@ childless b = decimal (b % 64) ++ blankIf (leb 128 b)
 -- ---- one record
 -- the nodes that wait are in the table, and what is written has room before the start
 pub record CanStep (step : List Waiting × List ℕ) (waiting text : List ℕ) (s : Writing) : Type 0 where
-  pub few : s .waiting ≤ 2047
-  pub long : length waiting ≡ 2047
+  pub few : s .waiting ≤ mostWritten
+  pub long : length waiting ≡ mostWritten
   pub room : HasRoom (length (step .1)) (s .start) text
 
 -- what waits then, and what is written before the text
@@ -79,7 +80,7 @@ pub record Misses (waiting text : List ℕ) (s s′ : Writing) (waiting′ text�
 
 -- one node more waits then
 abbrev pub CanMeet : ℕ → List ℕ → List ℕ → Writing → Type 0
-CanMeet l waiting text s = (l < 64) × ((0 < s .waiting) × ((s .waiting < 2047) × CanStep (met l (waiters waiting s)) waiting text s))
+CanMeet l waiting text s = (l < 64) × ((0 < s .waiting) × ((s .waiting < mostWritten) × CanStep (met l (waiters waiting s)) waiting text s))
 
 pub record Meets (l : ℕ) (waiting text : List ℕ) (s s′ : Writing) (waiting′ text′ : List ℕ) : Type 0 where
   pub steps : Steps (met l (waiters waiting s)) waiting text s s′ waiting′ text′
@@ -89,6 +90,6 @@ pub record Meets (l : ℕ) (waiting text : List ℕ) (s s′ : Writing) (waiting
 pub record WritesText (bytes : List ℕ) (start : ℕ) (text′ : List ℕ) : Type 0 where
   pub tree : WrittenTree
   pub images : Images bytes tree
-  pub inside : start ≤ 8188
-  pub long : length text′ ≡ 8188
+  pub inside : start ≤ longestText
+  pub long : length text′ ≡ longestText
   pub stands : drop start text′ ≡ textOf tree

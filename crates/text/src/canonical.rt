@@ -6,11 +6,13 @@ ghost use mathlib.Core.Path.{_≡_};
 ghost use Prim.Native.Nat.{_<_};
 ghost use lib.ListN.{length};
 ghost use Rattle.paper.specs.BracketedText.{decimal};
+ghost use Rattle.text.specs.Bounds.{longestText};
 ghost use Rattle.text.specs.JudgeImage.{acceptsImage, imageJudged, nothingRead};
 ghost use Rattle.text.specs.Writing.{CanComplete, CanMeet, CanMiss, Completes, HasRoom, Meets, Misses, Puts, WritesText, childless};
 use crate::bytes::BASE;
 use crate::image::RECORD;
 use paper::kinds::LEAF;
+use paper::limits::HIGHEST_LABEL;
 use paper::limits::MOST_WRITTEN_NODES;
 
 // A written node is at most two digits and two brackets, or a blank instead of these.
@@ -18,16 +20,16 @@ const LONGEST_NODE: usize = 4;
 
 pub(crate) const LONGEST_TEXT: usize = MOST_WRITTEN_NODES * LONGEST_NODE;
 
+// So many labels there are, and so far are the stages apart.
+const LABELS: u8 = HIGHEST_LABEL + 1;
+
 // The stages. Below the first a node waits for its others; then for its children, where it has no others and where it has some; and last
 // for the rest of its children, inside its brackets.
-const CHILDREN: u8 = 64;
+const CHILDREN: u8 = LABELS;
 
-const WITH_OTHERS: u8 = 128;
+const WITH_OTHERS: u8 = 2 * LABELS;
 
-const INSIDE: u8 = 192;
-
-// So many labels there are, and so far are the stages apart.
-const LABELS: u8 = 64;
+const INSIDE: u8 = 3 * LABELS;
 
 // How many nodes wait, and where the text that is written starts.
 struct Writing {
@@ -150,7 +152,7 @@ fn met(
 
 // All of an image: where its text starts, which goes on to the end of `text`.
 pub(crate) fn write_text(tree: &[u8], text: &mut [u8; LONGEST_TEXT]) -> usize
-    requires { ⌜ (acceptsImage (imageJudged nothingRead (now tree)) ≡ true) × (length (now text) ≡ 8188) ⌝ }
+    requires { ⌜ (acceptsImage (imageJudged nothingRead (now tree)) ≡ true) × (length (now text) ≡ longestText) ⌝ }
     ensures { λ r. ⌜ WritesText (now (tree .entry)) r (now (text .exit)) ⌝ }
 {
     let mut at = tree.len() - RECORD;

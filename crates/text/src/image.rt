@@ -3,22 +3,21 @@
 ghost use mathlib.Core.Bool.{_&&_};
 ghost use mathlib.Core.Path.{_≡_};
 ghost use lib.Dec.{eqb, leb};
+ghost use Rattle.text.specs.Bounds.{mostWritten};
 ghost use Rattle.text.specs.JudgeImage.{acceptsImage, imageJudged, nothingRead};
 use paper::kinds::BRANCH;
 use paper::kinds::LEAF;
 use paper::limits::HIGHEST_LABEL;
 use paper::limits::MOST_WRITTEN_NODES;
+use paper::limits::PAD_LABEL;
 
 // A record is a kind and a label.
 pub(crate) const RECORD: usize = 2;
 
-// The label of a pad.
-const NO_LABEL: u8 = 0;
-
 fn is_pad(kind: u8, label: u8) -> bool
     ensures { λ r. ⌜ r ≡ (eqb kind 1 && eqb label 0) ⌝ }
 {
-    kind == LEAF && label == NO_LABEL
+    kind == LEAF && label == PAD_LABEL
 }
 
 // The record of a written node: a branch.
@@ -30,7 +29,7 @@ fn is_written(kind: u8, label: u8) -> bool
 
 // One tree, not too large, and its root has no others.
 fn is_one_tree(trees: usize, nodes: usize, single: bool) -> bool
-    ensures { λ r. ⌜ r ≡ (eqb trees 1 && (single && leb nodes 2047)) ⌝ }
+    ensures { λ r. ⌜ r ≡ (eqb trees 1 && (single && leb nodes mostWritten)) ⌝ }
 {
     if trees != 1 {
         return false;

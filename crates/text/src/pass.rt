@@ -6,8 +6,10 @@ ghost use lib.Dec.{leb};
 ghost use lib.ListN.{length, drop};
 ghost use Rattle.paper.specs.BracketedText.{Comment};
 ghost use Rattle.writings.specs.ReadText.{symbolOf};
+ghost use Rattle.text.specs.Bounds.{betweenTokens, longestImage, mostWritten, refusedMode};
 ghost use Rattle.text.specs.Pass.{afterByte, afterSymbol};
 ghost use Rattle.text.specs.Reading.{Ends, Leaves, Room, keptIn, stateIn, uncommented, withDigit};
+use crate::bytes::BASE;
 use crate::reading::OUTSIDE;
 use crate::reading::REFUSED;
 use crate::reading::Reading;
@@ -18,11 +20,11 @@ use crate::tokens::end_number;
 use crate::tokens::open_brackets;
 use paper::limits::HIGHEST_LABEL;
 
-const BASE: usize = 10;
+const BASE_AS_SIZE: usize = BASE as usize;
 
 // One more digit: a number begins, or goes on. No zero leads a number, and none is above the highest label; so it never overflows.
 fn read_digit(s: Reading, digit: usize) -> Reading
-    requires { ⌜ (s .mode < 65) × (digit < 10) ⌝ }
+    requires { ⌜ (s .mode < refusedMode) × (digit < 10) ⌝ }
     ensures { λ r. ⌜ r ≡ withDigit s digit ⌝ }
 {
     let mut t = s;
@@ -33,7 +35,7 @@ fn read_digit(s: Reading, digit: usize) -> Reading
     if s.mode == 0 {
         return stop(s);
     }
-    let number = BASE * s.mode + digit;
+    let number = BASE_AS_SIZE * s.mode + digit;
     if number > HIGHEST_LABEL as usize {
         return stop(s);
     }
@@ -44,7 +46,7 @@ fn read_digit(s: Reading, digit: usize) -> Reading
 // A byte that is no digit, behind what it ends. A comment is passed over by the loop below, so its mark is no more than a blank here;
 // a slash is simply a wrong character.
 fn read_symbol(s: Reading, byte: u8, labels: &mut [u8], image: &mut [u8]) -> Reading
-    requires { ⌜ (s .mode ≡ 64) × Room s (now labels) (now image) ⌝ }
+    requires { ⌜ (s .mode ≡ betweenTokens) × Room s (now labels) (now image) ⌝ }
     ensures { λ r. ⌜ Leaves (uncommented (afterSymbol (symbolOf byte) (keptIn s (now (labels .entry)) (now (image .entry))))) r (now (labels .exit)) (now (image .exit)) ⌝ }
 {
     match byte {
@@ -68,7 +70,7 @@ fn is_digit(byte: u8) -> bool
 
 // One byte. It ends a number unless it is a digit.
 fn read_byte(s: Reading, byte: u8, labels: &mut [u8], image: &mut [u8]) -> Reading
-    requires { ⌜ (s .mode < 65) × Room s (now labels) (now image) ⌝ }
+    requires { ⌜ (s .mode < refusedMode) × Room s (now labels) (now image) ⌝ }
     ensures { λ r. ⌜ Leaves (uncommented (afterByte (stateIn s (now (labels .entry)) (now (image .entry))) byte)) r (now (labels .exit)) (now (image .exit)) ⌝ }
 {
     if is_digit(byte) {
@@ -97,7 +99,7 @@ fn comment_end(text: &[u8], at: usize) -> usize
 // The whole text. The loop ends with the text, or with the first fault, since nothing behind it can mend it; each turn goes over one
 // byte, and over the comment that it begins.
 pub(crate) fn read_text(text: &[u8], labels: &mut [u8], image: &mut [u8]) -> Reading
-    requires { ⌜ (length (now labels) ≡ 2047) × (length (now image) ≡ 8190) ⌝ }
+    requires { ⌜ (length (now labels) ≡ mostWritten) × (length (now image) ≡ longestImage) ⌝ }
     ensures { λ r. ⌜ Ends (now (text .entry)) r (now (labels .exit)) (now (image .exit)) ⌝ }
 {
     let mut s = begin();

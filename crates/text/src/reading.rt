@@ -2,6 +2,7 @@
 ghost use mathlib.Core.Bool.{_&&_};
 ghost use mathlib.Core.Path.{_≡_};
 ghost use lib.Dec.{eqb, ltb};
+ghost use Rattle.text.specs.Bounds.{betweenTokens};
 ghost use Rattle.text.specs.Reading.{start, stopped};
 use paper::limits::HIGHEST_LABEL;
 use paper::limits::MOST_WRITTEN_NODES;
@@ -53,7 +54,7 @@ pub(crate) fn stop(s: Reading) -> Reading
 
 // Whether the text was that of a tree, of which this is kept behind its last byte: no fault, every bracket closed, and a root.
 pub(crate) fn is_whole(s: Reading) -> bool
-    ensures { λ r. ⌜ r ≡ eqb (s .mode) 64 && (eqb (s .depth) 0 && ltb 0 (s .nodes)) ⌝ }
+    ensures { λ r. ⌜ r ≡ eqb (s .mode) betweenTokens && (eqb (s .depth) 0 && ltb 0 (s .nodes)) ⌝ }
 {
     if s.mode != OUTSIDE {
         return false;

@@ -4,20 +4,19 @@ ghost use Prim.Native.Nat.{_+_, _*_, _≤_};
 ghost use lib.ListN.{length, drop};
 ghost use Rattle.text.specs.Pass.{padIf};
 ghost use Rattle.text.specs.Reading.{Adds, Branches, Ended, Room};
+use crate::image::RECORD;
 use crate::reading::Reading;
 use crate::reading::YES;
 use paper::kinds::BRANCH;
 use paper::kinds::LEAF;
 use paper::limits::HIGHEST_LABEL;
-
-// A missing first child, or a missing next sibling, is a leaf of this label.
-const PAD_LABEL: u8 = 0;
+use paper::limits::PAD_LABEL;
 
 // What a label has more while its brackets are open. So a byte has room for both.
 pub(crate) const OPEN: u8 = HIGHEST_LABEL + 1;
 
 // What is left of the labels that wait, and how many bytes the image has.
-pub(crate) struct Written {
+pub(crate) struct Grown {
     pub(crate) first: usize,
     pub(crate) bytes: usize,
 }
@@ -28,7 +27,7 @@ fn put_record(image: &mut [u8], at: usize, kind: u8, label: u8) -> usize
 {
     image[at] = kind;
     image[at + 1] = label;
-    at + 2
+    at + RECORD
 }
 
 // The pad of a number that turns out to have no brackets.
@@ -44,7 +43,7 @@ pub(crate) fn put_pad_if(may: bool, image: &mut [u8], at: usize) -> usize
 
 // The branches of the labels inside the innermost open brackets, the last label first. The loop ends at the label of these brackets,
 // which is marked, or behind the last label.
-fn put_branches(labels: &[u8], first: usize, image: &mut [u8], at: usize) -> Written
+fn put_branches(labels: &[u8], first: usize, image: &mut [u8], at: usize) -> Grown
     requires { ⌜ (first ≤ length (now labels)) × (at + 2 * length (drop first (now labels)) ≤ length (now image)) ⌝ }
     ensures { λ r. ⌜ Branches (now (labels .entry)) first (now (image .entry)) at r (now (image .exit)) ⌝ }
 {
@@ -54,14 +53,14 @@ fn put_branches(labels: &[u8], first: usize, image: &mut [u8], at: usize) -> Wri
         end = put_record(&mut *image, end, BRANCH, labels[next]);
         next += 1;
     }
-    Written {
+    Grown {
         first: next,
         bytes: end,
     }
 }
 
 // Where siblings end: the last of them has no next sibling, and, if it stands just before, no child. Then their branches.
-pub(crate) fn end_siblings(s: Reading, labels: &[u8], image: &mut [u8]) -> Written
+pub(crate) fn end_siblings(s: Reading, labels: &[u8], image: &mut [u8]) -> Grown
     requires { ⌜ Room s (now labels) (now image) ⌝ }
     ensures { λ r. ⌜ Ended s (now (labels .entry)) (now (image .entry)) r (now (image .exit)) ⌝ }
 {

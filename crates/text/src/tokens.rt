@@ -6,6 +6,7 @@ ghost use lib.Dec.{eqb, leb, ltb};
 ghost use lib.ListN.{length, getD};
 ghost use Rattle.paper.specs.BracketedText.{closing, opening};
 ghost use Rattle.writings.specs.ReadText.{outside};
+ghost use Rattle.text.specs.Bounds.{betweenTokens, mostWritten};
 ghost use Rattle.text.specs.Pass.{step, within};
 ghost use Rattle.text.specs.Reading.{Closes, EndsNumber, Leaves, Room, keptIn};
 use crate::reading::NO;
@@ -20,7 +21,7 @@ use paper::limits::MOST_WRITTEN_NODES;
 
 // Whether no number may follow: there is a root already, or there are as many written nodes as there may be.
 fn is_full(depth: usize, nodes: usize) -> bool
-    ensures { λ r. ⌜ r ≡ (eqb depth 0 && ltb 0 nodes) || leb 2047 nodes ⌝ }
+    ensures { λ r. ⌜ r ≡ (eqb depth 0 && ltb 0 nodes) || leb mostWritten nodes ⌝ }
 {
     if MOST_WRITTEN_NODES <= nodes {
         return true;
@@ -33,7 +34,7 @@ fn is_full(depth: usize, nodes: usize) -> bool
 
 // The number that was read is a label, and waits. The one just before it has no brackets then.
 fn put_number(s: Reading, labels: &mut [u8], image: &mut [u8]) -> Reading
-    requires { ⌜ (s .mode < 64) × Room s (now labels) (now image) ⌝ }
+    requires { ⌜ (s .mode < betweenTokens) × Room s (now labels) (now image) ⌝ }
     ensures { λ r. ⌜ EndsNumber s (now (labels .entry)) (now (image .entry)) r (now (labels .exit)) (now (image .exit)) ⌝ }
 {
     if is_full(s.depth, s.nodes) {
@@ -65,7 +66,7 @@ pub(crate) fn end_number(s: Reading, labels: &mut [u8], image: &mut [u8]) -> Rea
 
 // Brackets stand behind a number only, whose label is the first that waits.
 pub(crate) fn open_brackets(s: Reading, labels: &mut [u8], image: &[u8]) -> Reading
-    requires { ⌜ (s .mode ≡ 64) × Room s (now labels) (now image) ⌝ }
+    requires { ⌜ (s .mode ≡ betweenTokens) × Room s (now labels) (now image) ⌝ }
     ensures { λ r. ⌜ Leaves (within outside (step (keptIn s (now (labels .entry)) (now (image .entry))) opening)) r (now (labels .exit)) (now (image .entry)) ⌝ }
 {
     if s.may != YES {
@@ -81,7 +82,7 @@ pub(crate) fn open_brackets(s: Reading, labels: &mut [u8], image: &[u8]) -> Read
 
 // The brackets of the first label that waits are closed. There always is one, but nothing here leans on it.
 fn close_first(labels: &mut [u8], first: usize)
-    requires { ⌜ (first < length (now labels) → 64 ≤ getD (now labels) first 0) ⌝ }
+    requires { ⌜ (first < length (now labels) → betweenTokens ≤ getD (now labels) first 0) ⌝ }
     ensures { λ _. ⌜ Closes (now (labels .entry)) first (now (labels .exit)) ⌝ }
 {
     if first < labels.len() {
@@ -91,7 +92,7 @@ fn close_first(labels: &mut [u8], first: usize)
 
 // The labels inside the brackets have waited long enough.
 pub(crate) fn close_brackets(s: Reading, labels: &mut [u8], image: &mut [u8]) -> Reading
-    requires { ⌜ (s .mode ≡ 64) × Room s (now labels) (now image) ⌝ }
+    requires { ⌜ (s .mode ≡ betweenTokens) × Room s (now labels) (now image) ⌝ }
     ensures { λ r. ⌜ Leaves (within outside (step (keptIn s (now (labels .entry)) (now (image .entry))) closing)) r (now (labels .exit)) (now (image .exit)) ⌝ }
 {
     if s.depth == 0 {

@@ -3,7 +3,6 @@
 use mathlib.Core.Path.{_≡_, refl}
 use mathlib.Core.List.{List, [], _∷_, _++_, map}
 use Prim.Native.Nat.{ℕ}
-use lib.ListN.{length}
 use Rattle.paper.specs.Stream.{recordsOf}
 use Rattle.paper.specs.Tree.{leaf, branch, unjoined}
 use Rattle.paper.specs.Refusals.{Reply, refused, answer}
@@ -45,6 +44,8 @@ cases =
     (toTree nine 14, answer nineTree)
     ∷ (toTree nine 13, refused 10)
     ∷ (toTree nineTyped 8190, answer nineTree)
+    -- a line end between two numbers and behind the root: `9(5`, line end, `6)`, line end
+    ∷ (toTree (57 ∷ 40 ∷ 53 ∷ 10 ∷ 54 ∷ 41 ∷ 10 ∷ []) 14, answer nineTree)
     ∷ (toText nineTree 6, answer nine)
     ∷ (toText nineTree 5, refused 10)
     -- `0()` is `0`
