@@ -32,6 +32,10 @@ part-fits zero image room h = omega arith
 part-fits (suc bytes) [] room h = omega arith
 part-fits (suc bytes) (x ∷ image) room h = omega (arith, part-fits bytes image bytes (omega arith), h)
 
+-- and where more do
+pub part-fits-more : (bytes : ℕ) (image : List ℕ) (room : ℕ) → bytes < room → length (take bytes image) ≤ room
+part-fits-more bytes image room h = part-fits bytes image room (omega arith)
+
 module _ (text : List ℕ) (s : Reading) (labels image : List ℕ) (e : Ends text s labels image) where
   abbrev whole : Bool
   whole = eqb (s .mode) 64 && (eqb (s .depth) 0 && ltb 0 (s .nodes))

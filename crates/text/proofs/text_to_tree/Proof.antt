@@ -5,7 +5,7 @@ use borrow.Author.Needs.{needs}
 use borrow.Author.Tests.{not-false, not-true}
 use lib.ListN.{length}
 use lib.Seq.{length-take-le}
-use Rattle.text.proofs.TreeReplies.{bytes-inside, image-told, output-short, part-fits, text-refused}
+use Rattle.text.proofs.TreeReplies.{bytes-inside, image-told, output-short, part-fits, part-fits-more, text-refused}
 use Rattle.text.proofs.text_to_tree.Statement.{statement}
 use Rattle.text.proofs.text_to_tree.Tie as tie
 
@@ -18,7 +18,7 @@ inside m =
 
 -- and what is copied has room: the output's length is tested before
 copy-to-start-requires : tie.Need-copy-to-start-requires
-copy-to-start-requires c κs = search (needs, part-fits)
+copy-to-start-requires c κs = search (needs, part-fits, part-fits-more)
 
 slice-aggregate-read-text : tie.Need-slice-aggregate-read-text
 slice-aggregate-read-text c = search needs
