@@ -5,3 +5,4 @@ pub mod OneAnswer
 pub mod Refusals
 pub mod Witness
 pub mod Conversions
+pub mod ThereAndBack

@@ -1,5 +1,5 @@
 -- Demand 1 of the functions: a call, known by its contract alone, returns a number exactly if that is the first in the paper's order
--- whose cause applies, and answers exactly if no cause does. First one law for every answer enum, then the six functions.
+-- whose cause applies, and answers exactly if no cause does. First one law for every answer enum, then the six functions of document 01.
 use mathlib.Core.List.{List}
 use mathlib.Core.Logic.{Iff·trans, _↔_, _⊎_, inl, inr, ⊎-elim}
 use mathlib.Core.Path.{_∙_, _≡_, ap, refl, sym}
@@ -39,7 +39,7 @@ use Rattle.demands.specs.Refused.{Answered, Exact, ExactQuestion, Return
 
 -- ---- the law
 -- of a result by what it says: it is a refusal, or it says an answer
-abbrev Told : {Result A : Type 0} → (Refusal → Result) → (Result → Reply A) → Result → Type 0
+abbrev pub Told : {Result A : Type 0} → (Refusal → Result) → (Result → Reply A) → Result → Type 0
 Told {A = A} Refused says r = ((why : Refusal) × (r ≡ Refused why)) ⊎ ((a : A) × (says r ≡ answer a))
 
 -- what is told of an answer is an answer, and of a refusal the refusal
@@ -47,7 +47,7 @@ pub told-refused : {A B : Type 0} (f : A → B) (reply : Reply A) (n : ℕ) → 
 told-refused f (refused m) n = (λ e. ap refused (refused-inj e), λ e. ap (told f) e)
 told-refused f (answer a) n = (λ e. absurd (refused-not-answer (sym e)), λ e. absurd (refused-not-answer (sym e)))
 
-pub told-answer : {A B : Type 0} (f : A → B) (reply : Reply A) (b : B) → told f reply ≡ answer b → (a : A) × (reply ≡ answer a)
+told-answer : {A B : Type 0} (f : A → B) (reply : Reply A) (b : B) → told f reply ≡ answer b → (a : A) × (reply ≡ answer a)
 told-answer f (refused m) b e = absurd (refused-not-answer e)
 told-answer f (answer a) b e = (a, refl)
 
@@ -55,18 +55,18 @@ told-same : {A : Type 0} (reply : Reply A) → reply ≡ told (λ a. a) reply
 told-same (refused n) = refl
 told-same (answer a) = refl
 
--- a result that says what tests in an order come to, where those are exact
+-- a result that says what a reply is, where that is exact
 module _ {Result A B : Type 0} (Refused : Refusal → Result) (says : Result → Reply B) (refuses : (why : Refusal) → says (Refused why) ≡ refused (numberOf why))
     (cases : (r : Result) → Told Refused says r) where
-  exact : (f : A → B) (ts : List Test) (a : A) (r : Result) → says r ≡ told f (unless ts a) → {First : ℕ → Type 0} {None : Type 0}
-      → ((n : ℕ) → (unless ts a ≡ refused n) ↔ First n) → (unless ts a ≡ answer a) ↔ None → Exact Refused r First None
-  exact f ts a r is {First} {None} firsts none = record {
-    returns = λ n. Iff·trans (returned n) (Iff·trans (told-refused f (unless ts a) n) (firsts n));
-    answers = Iff·trans (λ w. given (cases r) w, λ e why q. refused-not-answer (sym (refuses why) ∙ ap says (sym q) ∙ is ∙ ap (told f) e)) none;
+  pub exact-reply : (f : A → B) (reply : Reply A) (r : Result) → says r ≡ told f reply → {First : ℕ → Type 0} {None : Type 0}
+      → ((n : ℕ) → (reply ≡ refused n) ↔ First n) → ((a : A) × (reply ≡ answer a)) ↔ None → Exact Refused r First None
+  exact-reply f reply r is {First} {None} firsts none = record {
+    returns = λ n. Iff·trans (returned n) (Iff·trans (told-refused f reply n) (firsts n));
+    answers = Iff·trans (λ w. given (cases r) w, λ (a, e) why q. refused-not-answer (sym (refuses why) ∙ ap says (sym q) ∙ is ∙ ap (told f) e)) none;
   }
     where
       -- the number returned is the number said
-      returned : (n : ℕ) → Returns Refused r n ↔ (told f (unless ts a) ≡ refused n)
+      returned : (n : ℕ) → Returns Refused r n ↔ (told f reply ≡ refused n)
       returned n = (
         λ (why, e, number). sym is ∙ ap says e ∙ refuses why ∙ ap refused number,
         λ e. ⊎-elim
@@ -76,11 +76,15 @@ module _ {Result A B : Type 0} (Refused : Refusal → Result) (says : Result →
       )
 
       -- an answer said is the answer
-      given : Told Refused says r → Answered Refused r → unless ts a ≡ answer a
+      given : Told Refused says r → Answered Refused r → (a : A) × (reply ≡ answer a)
       given (inl (why, q)) w = absurd (w why q)
-      given (inr (b, q)) w =
-          let (a′, e) = told-answer f (unless ts a) b (sym is ∙ q) in
-          e ∙ ap answer (sym (answered ts e .1))
+      given (inr (b, q)) w = told-answer f reply b (sym is ∙ q)
+
+  -- and what tests in an order come to
+  exact : (f : A → B) (ts : List Test) (a : A) (r : Result) → says r ≡ told f (unless ts a) → {First : ℕ → Type 0} {None : Type 0}
+      → ((n : ℕ) → (unless ts a ≡ refused n) ↔ First n) → (unless ts a ≡ answer a) ↔ None → Exact Refused r First None
+  exact f ts a r is firsts none =
+      exact-reply f (unless ts a) r is firsts (Iff·trans (λ (b, e). e ∙ ap answer (sym (answered ts e .1)), λ e. (a, e)) none)
 
 -- ---- build
 built-cases : (r : Built) → Told BuiltIs.Refused saysBuilt r

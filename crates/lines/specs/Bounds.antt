@@ -5,7 +5,7 @@ use Prim.Native.Nat.{ℕ, _+_}
 abbrev pub longestNumber : ℕ
 longestNumber = 20
 
--- a word that a line begins with: `records ` and `refused ` are the longest
+-- a word that a line begins with: `refused ` is as long, and no other is longer
 abbrev pub longestWord : ℕ
 longestWord = 8
 

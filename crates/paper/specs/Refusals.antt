@@ -208,7 +208,7 @@ abbrev pub targetAfter : Reply (Head × List Record) → List Record → List Re
 targetAfter (refused r) target = target
 targetAfter (answer a) target = over (a .1) target
 
--- the output of row by number and of project
+-- the output of row by number, of project, and of the two calls between text and tree
 abbrev pub outputAfter : Reply (List ℕ) → List ℕ → List ℕ
 outputAfter (refused r) out = out
 outputAfter (answer xs) out = over xs out

@@ -50,7 +50,8 @@ impl Place {
 }
 
 // The numbers that say no, in the order of their table, each case named after its cause. It is one enum for all calls, so that a number
-// means the same wherever it is met; which call gives which, and which first, is said in specs/Refusals.antt.
+// means the same wherever it is met; which call gives which, and which first, is said in specs/Refusals.antt, and for the two calls of
+// request 2026-01 in specs/Conversions.antt.
 pub enum Refusal {
     Tree,
     ManyNodes,

@@ -6,10 +6,16 @@ use Prim.Native.Nat.{ℕ}
 use lib.ListN.{length}
 use Rattle.paper.specs.declared.Record.{Record}
 use Rattle.paper.specs.Answers.{told}
-use Rattle.paper.specs.Conversions.{TextReply, TreeReply}
-use Rattle.paper.specs.Refusals.{Reply, outputAfter}
+use Rattle.paper.specs.BracketedText.{Writes}
+use Rattle.paper.specs.CanonicalText.{textOf}
+use Rattle.paper.specs.Conversions.{Conversion, Images}
+use Rattle.paper.specs.Image.{imageBytes}
+use Rattle.paper.specs.Refusals.{outputAfter}
 use Rattle.paper.specs.Row.{Row}
-use Rattle.writings.proofs.Replies.{one-text-reply, one-tree-reply}
+use Rattle.paper.specs.WrittenTree.{WrittenTree}
+use Rattle.writings.proofs.Replies.{one-right}
+use Rattle.writings.proofs.RoundTrips.{one-image}
+use Rattle.writings.proofs.Texts.{one-tree}
 use Rattle.tarnsatchel.specs.Told.{TellsBuild, TellsConversion, TellsCount, TellsFix, TellsMember, TellsProject, TellsRow, TellsText, TellsTree, answerAfter, code}
 
 module _ (work : List ℕ) (r s : ℕ) (work₁ work₂ : List ℕ) where
@@ -42,23 +48,21 @@ module _ (work : List ℕ) (r s : ℕ) (work₁ work₂ : List ℕ) where
     one-fix place n target target₁ target₂ fixed fixed₁ fixed₂ a b =
         (a .number ∙ sym (b .number), a .worked ∙ sym (b .worked), a .written ∙ sym (b .written), a .shown ∙ sym (b .shown))
 
--- two replies that are right are one, so what is told of them is one
-one-conversion : (Right : Reply (List ℕ) → Type 0) → ((a b : Reply (List ℕ)) → Right a → Right b → a ≡ b)
-    → (out out₁ out₂ : List ℕ) (bytes bytes₁ bytes₂ r s : ℕ) → TellsConversion Right out bytes r out₁ bytes₁
-    → TellsConversion Right out bytes s out₂ bytes₂ → (r ≡ s) × (out₁ ≡ out₂) × (bytes₁ ≡ bytes₂)
-one-conversion Right one out out₁ out₂ bytes bytes₁ bytes₂ r s a b =
-    let e : a .reply ≡ b .reply = one (a .reply) (b .reply) (a .right) (b .right) in (
-      a .number ∙ ap code e ∙ sym (b .number),
-      a .written ∙ ap (λ x. outputAfter x out) e ∙ sym (b .written),
-      a .shown ∙ ap (λ x. answerAfter (told length x) bytes) e ∙ sym (b .shown),
-    )
+-- the conversions: of a source that is of one tree at most two right replies are one, so what is told of them is one
+module _ (Of : WrittenTree → Type 0) (result : WrittenTree → List ℕ) (one-of : (v w : WrittenTree) → Of v → Of w → v ≡ w) (out : List ℕ) where
+  one-conversion : (out₁ out₂ : List ℕ) (bytes bytes₁ bytes₂ r s : ℕ) → TellsConversion (Conversion Of result (length out)) out bytes r out₁ bytes₁
+      → TellsConversion (Conversion Of result (length out)) out bytes s out₂ bytes₂ → (r ≡ s) × (out₁ ≡ out₂) × (bytes₁ ≡ bytes₂)
+  one-conversion out₁ out₂ bytes bytes₁ bytes₂ r s a b =
+      let e : a .reply ≡ b .reply = one-right Of result one-of (length out) (a .reply) (b .reply) (a .right) (b .right) in (
+        a .number ∙ ap code e ∙ sym (b .number),
+        a .written ∙ ap (λ x. outputAfter x out) e ∙ sym (b .written),
+        a .shown ∙ ap (λ x. answerAfter (told length x) bytes) e ∙ sym (b .shown),
+      )
 
 pub one-text-to-tree : (text tree tree₁ tree₂ : List ℕ) (bytes bytes₁ bytes₂ r s : ℕ) → TellsTree text tree bytes r tree₁ bytes₁
     → TellsTree text tree bytes s tree₂ bytes₂ → (r ≡ s) × (tree₁ ≡ tree₂) × (bytes₁ ≡ bytes₂)
-one-text-to-tree text tree =
-    one-conversion (TreeReply text (length tree)) (λ a b g h. one-tree-reply text (length tree) a g ∙ sym (one-tree-reply text (length tree) b h)) tree
+one-text-to-tree text tree = one-conversion (Writes text) imageBytes (one-tree text) tree
 
 pub one-tree-to-text : (tree text text₁ text₂ : List ℕ) (bytes bytes₁ bytes₂ r s : ℕ) → TellsText tree text bytes r text₁ bytes₁
     → TellsText tree text bytes s text₂ bytes₂ → (r ≡ s) × (text₁ ≡ text₂) × (bytes₁ ≡ bytes₂)
-one-tree-to-text tree text =
-    one-conversion (TextReply tree (length text)) (λ a b g h. one-text-reply tree (length text) a g ∙ sym (one-text-reply tree (length text) b h)) text
+one-tree-to-text tree text = one-conversion (Images tree) textOf (one-image tree) text

@@ -12,9 +12,9 @@ use Rattle.paper.specs.Answers.{numberOf, saysConverted, told}
 use Rattle.paper.specs.Conversions.{TreeReply, no-room, of-none, the-result}
 use Rattle.paper.specs.Image.{imageBytes}
 use Rattle.paper.specs.Refusals.{Reply, answer, outputAfter, refused}
-use Rattle.paper.specs.WrittenTree.{Allowed, WrittenTree}
+use Rattle.paper.specs.WrittenTree.{WrittenTree}
 use Rattle.laws.proofs.Replies.{answer-inj, refused-inj, refused-not-answer}
-use Rattle.writings.proofs.ImageTrees.{image-length}
+use Rattle.writings.proofs.ImageTrees.{image-short}
 use Rattle.writings.proofs.Texts.{one-tree, writes-allowed}
 use Rattle.text.specs.Face.{MakesTree}
 use Rattle.lines.specs.Put.{putFact}
@@ -22,10 +22,6 @@ use Rattle.lines.specs.Text.{factText, refusedWord}
 use Rattle.lines.proofs.Putting.{fact-short, puts-fact}
 use Rattle.tree.specs.Telling.{Stands, Tells, longestImage, longestInput}
 use Rattle.tree.specs.Telling as T
-
--- the records of a tree that can be written are never longer than the output
-pub image-short : (w : WrittenTree) → Allowed w → length (imageBytes w) ≤ longestImage
-image-short w h = omega (arith, image-length w, h .few)
 
 -- the line of a refusal stands in an output that is long enough
 pub line-stands : (input : List ℕ) (n : ℕ) → Tells input (factText refusedWord n) → (out : List ℕ) → length out ≡ longestImage

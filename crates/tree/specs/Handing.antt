@@ -8,13 +8,10 @@ use lib.ListN.{length}
 use Rattle.tree.specs.declared.handed.Handed.{Handed}
 use Rattle.tree.specs.Telling.{Tells}
 
-abbrev pub nothingHanded : Handed
-nothingHanded = record { bytes = 0; failed = false }
-
--- standard output has the number 1; what goes there is all that the program tells, in one write, and nothing went before
-pub record Due (descriptor : ℤ) (input : List ℕ) (handed : Handed) (bytes : List ℕ) : Type 0 where
+-- standard output has the number 1; what goes there is all that the program tells, in one write. That there is no second write is
+-- believed (docs/PROMISES.md)
+pub record Due (descriptor : ℤ) (input : List ℕ) (bytes : List ℕ) : Type 0 where
   pub output : descriptor ≡ pos 1
-  pub first : handed ≡ nothingHanded
   pub all : Tells input bytes
 
 -- everything that the program tells of the input was handed on, unless a write failed

@@ -1,7 +1,7 @@
 // What is handed to the system. `hand_on` is the one function of the program that writes.
 ghost use mathlib.Core.Path.{_≡_};
 ghost use lib.ListN.{length};
-ghost use Rattle.tree.specs.Handing.{Due, nothingHanded};
+ghost use Rattle.tree.specs.Handing.{Due};
 use libc::STDERR_FILENO;
 
 // How many bytes were handed on, and whether a write failed. The fields are known in this file only: nothing else can count a byte as
@@ -12,21 +12,11 @@ pub(crate) struct Handed {
     failed: bool,
 }
 
-// Before the first write.
-pub(crate) fn nothing() -> Handed
-    ensures { λ r. ⌜ r ≡ nothingHanded ⌝ }
-{
-    Handed {
-        bytes: 0,
-        failed: false,
-    }
-}
-
 // Hands all that the program tells of the input to standard output. The input is not read: the contract needs it, to say what is told.
 // The bytes are lent with `mut` and nothing is said of them afterwards, so that they are used up: to hand them on twice a caller would
 // have to make them anew. A write that fails is told in a line on standard error.
-pub(crate) fn hand_on(descriptor: i32, input: &[u8], handed: Handed, bytes: &mut [u8]) -> Handed
-    requires { ⌜ Due descriptor (now input) handed (now bytes) ⌝ }
+pub(crate) fn hand_on(descriptor: i32, input: &[u8], bytes: &mut [u8]) -> Handed
+    requires { ⌜ Due descriptor (now input) (now bytes) ⌝ }
     ensures { λ r. ⌜ r .bytes ≡ length (now (bytes .entry)) ⌝ }
 {
     let written = io::write_all(descriptor, &*bytes);

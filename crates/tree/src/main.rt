@@ -6,7 +6,6 @@ ghost use Rattle.tree.specs.Handing.{HandsOn};
 ghost use Rattle.tree.specs.Telling.{longestImage, Stands};
 use crate::handed::Handed;
 use crate::handed::hand_on;
-use crate::handed::nothing;
 use libc::STDIN_FILENO;
 use libc::STDOUT_FILENO;
 use lines::put_refusal;
@@ -42,7 +41,7 @@ fn tell(input: &[u8], out: &mut [u8]) -> Handed
     ensures { λ r. ⌜ HandsOn (now (input .entry)) r ⌝ }
 {
     let bytes = answer(input, &mut *out);
-    hand_on(STDOUT_FILENO, input, nothing(), &mut out[..bytes])
+    hand_on(STDOUT_FILENO, input, &mut out[..bytes])
 }
 
 // One byte more is read than the program takes, to see an input that is too long: `read_full` stops where the buffer is full or the

@@ -73,3 +73,7 @@ pub text-length : (f : Forest) → length (forestText f) ≤ 4 * forestNodes f
 text-length nil = omega arith
 text-length (tree l c s) =
     simp length-append (omega (arith, decimal-length l, behind-length c s (forestText c), text-length c, text-length s))
+
+-- so the canonical text of a tree that can be written has at most 8,188
+pub text-short : (w : WrittenTree) → Allowed w → length (textOf w) ≤ 8188
+text-short w a = omega (arith, text-length (forestOf w), a .few)

@@ -79,10 +79,3 @@ records-pass w a =
       some-record (imageRecords (forestOf w)) (omega (arith, image-records-length (forestOf w))),
       (ap (λ (s : List Tree × ℕ). eqb (length (s .0)) 1) (image-grown (forestOf w) [] 0), tt),
     )
-
-pub image-passes : (w : WrittenTree) → Allowed w → Passes (treePart (treeRecords (recordsOf (imageBytes w))))
-image-passes w a = subst (λ rs. Passes (treePart rs)) (sym only-tree) (records-pass w a)
-  where
-    only-tree : treeRecords (recordsOf (imageBytes w)) ≡ imageRecords (forestOf w)
-    only-tree = ap treeRecords (records-of-image (forestOf w)) ∙ ap treeRecords (sym (append-nil (imageRecords (forestOf w))))
-        ∙ image-tree-records (forestOf w) [] ∙ append-nil (imageRecords (forestOf w))

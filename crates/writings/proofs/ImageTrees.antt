@@ -1,7 +1,7 @@
 -- The image as document 01 reads it: its bytes are its records, and these make one subtree, the image tree.
 use mathlib.Core.Path.{_≡_, refl, sym, _∙_, ap}
 use mathlib.Core.List.{List, [], _∷_, _++_, append-nil}
-use Prim.Native.Nat.{ℕ, suc, _+_, _*_}
+use Prim.Native.Nat.{ℕ, suc, _+_, _*_, _≤_}
 use native.Mathlib.Omega.{arith}
 use lib.ListN.{length, length-append}
 use Rattle.paper.specs.Lists.{through}
@@ -10,7 +10,7 @@ use Rattle.paper.specs.Tree.{Tree, grow, unjoined, size}
 use Rattle.laws.proofs.Lists.{through-append}
 use Rattle.laws.proofs.StreamPlaces.{records-cons}
 use Rattle.writings.proofs.Images.{regrouped}
-use Rattle.paper.specs.WrittenTree.{Forest, nil, tree, WrittenTree, forestOf, writtenNodes}
+use Rattle.paper.specs.WrittenTree.{Forest, nil, tree, WrittenTree, forestOf, writtenNodes, Allowed}
 use Rattle.paper.specs.Image.{imageNodes, imageFrom, imageTree, imageRecords, forestBytes, imageBytes}
 
 -- ---- how many
@@ -35,6 +35,10 @@ image-bytes-length (tree l c s) =
 -- two bytes a node
 pub image-length : (w : WrittenTree) → length (imageBytes w) ≡ 4 * writtenNodes w + 2
 image-length w = omega (arith, image-bytes-length (forestOf w))
+
+-- so the image of a tree that can be written has at most 8,190
+pub image-short : (w : WrittenTree) → Allowed w → length (imageBytes w) ≤ 8190
+image-short w a = omega (arith, image-length w, a .few)
 
 -- ---- the records
 pub image-records : (f : Forest) (t : List ℕ) → recordsOf (forestBytes f ++ t) ≡ imageRecords f ++ recordsOf t

@@ -3,10 +3,11 @@
 use mathlib.Core.Bool.{Bool, true, false, cond}
 use mathlib.Core.List.{List, [], _∷_, map}
 use mathlib.Core.Logic.{_↔_}
-use mathlib.Core.Option.{Option, none, some, Option·map, Option·none-ne-some}
+use mathlib.Core.Option.{Option, none, some, Option·map, Option·none-ne-some, Option·some-injective}
 use mathlib.Core.Path.{_≡_, refl, sym, _∙_, ap, subst}
-use Prim.Native.Nat.{ℕ, _≤_, _<_}
-use borrow.Author.Tests.{leb-true, leb-false, le-leb, lt-leb}
+use Prim.Native.Nat.{ℕ}
+use native.Mathlib.Omega.{arith}
+use borrow.Author.Tests.{leb-true, leb-false}
 use lib.Dec.{leb}
 use lib.ListN.{length}
 use Rattle.paper.specs.BracketedText.{Writes}
@@ -22,32 +23,27 @@ use Rattle.writings.specs.ReadText.{readText}
 use Rattle.writings.proofs.Images.{image-read, read-image}
 use Rattle.writings.proofs.Texts.{read-writes, writes-read}
 
--- a result that fits, and one that does not
-fits : (room : ℕ) (bytes : List ℕ) → length bytes ≤ room → replied room (some bytes) ≡ answer bytes
-fits room bytes h = rw (le-leb (length bytes) room h)
+-- ---- one law for both calls
+-- of a source that is of one tree at most, two right replies are one
+module _ (Of : WrittenTree → Type 0) (result : WrittenTree → List ℕ) (one-of : (v w : WrittenTree) → Of v → Of w → v ≡ w) (room : ℕ) where
+  same-length : (v w : WrittenTree) → Of v → Of w → length (result v) ≡ length (result w)
+  same-length v w g h = ap (λ x. length (result x)) (one-of v w g h)
 
-too-long : (room : ℕ) (bytes : List ℕ) → room < length bytes → replied room (some bytes) ≡ refused 10
-too-long room bytes h = rw (lt-leb (length bytes) room h)
+  pub one-right : (a b : Reply (List ℕ)) → Conversion Of result room a → Conversion Of result room b → a ≡ b
+  one-right _ _ (of-none never) (of-none never′) = refl
+  one-right _ _ (of-none never) (no-room {w} g h) = absurd (never w g)
+  one-right _ _ (of-none never) (the-result {w} g h) = absurd (never w g)
+  one-right _ _ (no-room {w} g h) (of-none never) = absurd (never w g)
+  one-right _ _ (no-room g h) (no-room g′ h′) = refl
+  one-right _ _ (no-room {w = v} g h) (the-result {w} g′ h′) = absurd (omega (arith, same-length v w g g′))
+  one-right _ _ (the-result {w} g h) (of-none never) = absurd (never w g)
+  one-right _ _ (the-result {w = v} g h) (no-room {w} g′ h′) = absurd (omega (arith, same-length v w g g′))
+  one-right _ _ (the-result {w = v} g h) (the-result {w} g′ h′) = ap (λ x. answer (result x)) (one-of v w g g′)
 
--- ---- one law for both: a source that is of a tree exactly if it is read as that tree
+-- of one that is of a tree exactly if it is read as that tree, the computed reply is right, and so it is the one
 module _ (Of : WrittenTree → Type 0) (result : WrittenTree → List ℕ) (read : Option WrittenTree) (read-of : (w : WrittenTree) → read ≡ some w → Of w)
     (of-read : (w : WrittenTree) → Of w → read ≡ some w) (room : ℕ) where
-  abbrev computed : Reply (List ℕ)
-  computed = replied room (Option·map result read)
-
-  none-read : ((w : WrittenTree) → Of w → ⊥) → read ≡ none
-  none-read never = go read refl
-    where
-      go : (o : Option WrittenTree) → read ≡ o → o ≡ none
-      go none e = refl
-      go (some w) e = absurd (never w (read-of w e))
-
-  one-reply : (r : Reply (List ℕ)) → Conversion Of result room r → r ≡ computed
-  one-reply _ (of-none never) = sym (ap (λ o. replied room (Option·map result o)) (none-read never))
-  one-reply _ (no-room {w} g h) = sym (ap (λ o. replied room (Option·map result o)) (of-read w g) ∙ too-long room (result w) h)
-  one-reply _ (the-result {w} g h) = sym (ap (λ o. replied room (Option·map result o)) (of-read w g) ∙ fits room (result w) h)
-
-  right-reply : Conversion Of result room computed
+  right-reply : Conversion Of result room (replied room (Option·map result read))
   right-reply = go read refl
     where
       sized : (w : WrittenTree) → Of w → (p : Bool) → leb (length (result w)) room ≡ p
@@ -59,33 +55,25 @@ module _ (Of : WrittenTree → Type 0) (result : WrittenTree → List ℕ) (read
       go none e = of-none (λ w g. Option·none-ne-some w (sym e ∙ of-read w g))
       go (some w) e = sized w (read-of w e) (leb (length (result w)) room) refl
 
+  exactly : (r : Reply (List ℕ)) → Conversion Of result room r ↔ (r ≡ replied room (Option·map result read))
+  exactly r = (
+    λ g. one-right Of result (λ v w x y. Option·some-injective v w (sym (of-read v x) ∙ of-read w y)) room r _ g right-reply,
+    λ e. subst (Conversion Of result room) (sym e) right-reply,
+  )
+
 -- ---- text to tree
-module _ (text : List ℕ) (room : ℕ) where
-  pub one-tree-reply : (r : Reply (List ℕ)) → TreeReply text room r → r ≡ treeOfText text room
-  one-tree-reply = one-reply (Writes text) imageBytes (readText text) (read-writes text) (writes-read text) room
-
-  tree-replied : TreeReply text room (treeOfText text room)
-  tree-replied = right-reply (Writes text) imageBytes (readText text) (read-writes text) (writes-read text) room
-
-  pub tree-reply-exactly : (r : Reply (List ℕ)) → TreeReply text room r ↔ (r ≡ treeOfText text room)
-  tree-reply-exactly r = (one-tree-reply r, λ e. subst (TreeReply text room) (sym e) tree-replied)
+pub tree-reply-exactly : (text : List ℕ) (room : ℕ) (r : Reply (List ℕ)) → TreeReply text room r ↔ (r ≡ treeOfText text room)
+tree-reply-exactly text = exactly (Writes text) imageBytes (readText text) (read-writes text) (writes-read text)
 
 -- ---- tree to text
-module _ (bytes : List ℕ) (room : ℕ) where
-  image-found : (w : WrittenTree) → Images bytes w → readImage bytes ≡ some w
-  image-found w g = ap readImage (sym (g .image)) ∙ image-read w (g .allowed)
+pub text-reply-exactly : (bytes : List ℕ) (room : ℕ) (r : Reply (List ℕ)) → TextReply bytes room r ↔ (r ≡ textOfTree bytes room)
+text-reply-exactly bytes = exactly (Images bytes) textOf (readImage bytes) found-image image-found
+  where
+    image-found : (w : WrittenTree) → Images bytes w → readImage bytes ≡ some w
+    image-found w g = ap readImage (sym (g .image)) ∙ image-read w (g .allowed)
 
-  found-image : (w : WrittenTree) → readImage bytes ≡ some w → Images bytes w
-  found-image w e = let r = read-image bytes w e in record { allowed = r .1; image = sym (r .0) }
-
-  pub one-text-reply : (r : Reply (List ℕ)) → TextReply bytes room r → r ≡ textOfTree bytes room
-  one-text-reply = one-reply (Images bytes) textOf (readImage bytes) found-image image-found room
-
-  text-replied : TextReply bytes room (textOfTree bytes room)
-  text-replied = right-reply (Images bytes) textOf (readImage bytes) found-image image-found room
-
-  pub text-reply-exactly : (r : Reply (List ℕ)) → TextReply bytes room r ↔ (r ≡ textOfTree bytes room)
-  text-reply-exactly r = (one-text-reply r, λ e. subst (TextReply bytes room) (sym e) text-replied)
+    found-image : (w : WrittenTree) → readImage bytes ≡ some w → Images bytes w
+    found-image w e = let r = read-image bytes w e in record { allowed = r .1; image = sym (r .0) }
 
 -- ---- the worked cases
 -- the call replies so
@@ -98,8 +86,8 @@ AllReply [] = Unit {0}
 AllReply (c ∷ cs) = Replies (c .0) (c .1) × AllReply cs
 
 replies : (c : Call) (r : Reply (List ℕ)) → reply c ≡ r → Replies c r
-replies (toTree text room) r e = subst (TreeReply text room) e (tree-replied text room)
-replies (toText bytes room) r e = subst (TextReply bytes room) e (text-replied bytes room)
+replies (toTree text room) r e = tree-reply-exactly text room r .1 (sym e)
+replies (toText bytes room) r e = text-reply-exactly bytes room r .1 (sym e)
 
 all-reply : (cs : List (Call × Reply (List ℕ))) → map (λ c. reply (c .0)) cs ≡ map (λ c. c .1) cs → AllReply cs
 all-reply [] e = tt

@@ -13,6 +13,7 @@ use Rattle.paper.specs.BracketedText.{Token, number, opening, closing, decimal,
 use Rattle.paper.specs.BracketedText.{Siblings, no-more, without-brackets, with-brackets, Writes}
 use Rattle.paper.specs.CanonicalText.{bracketed, between, forestText, textOf}
 use Rattle.writings.specs.Tidy.{Digit, Neighbours, TidyAfter, Tidy}
+use Rattle.writings.proofs.Images.{regrouped}
 use Rattle.writings.proofs.Signs.{one-digit, two-digits}
 use Rattle.writings.proofs.CanonicalTexts.{alone, blank-follows, brackets-follow}
 
@@ -198,9 +199,6 @@ some-content : {ts us : List Token} {c : Forest} → Siblings ts c (closing ∷ 
 some-content no-more n x s = absurd n
 some-content (without-brackets g) n x s = append-nil (40 ∷ (x ++ (41 ∷ [])))
 some-content (with-brackets g g′) n x s = append-nil (40 ∷ (x ++ (41 ∷ [])))
-
-regrouped : (d x y t : List ℕ) → (d ++ (x ++ y)) ++ t ≡ d ++ (x ++ (y ++ t))
-regrouped d x y t = simp append-assoc
 
 with-content : (d x b w y t : List ℕ) → b ++ w ≡ 40 ∷ (x ++ (41 ∷ [])) → (d ++ (b ++ (w ++ y))) ++ t ≡ d ++ (40 ∷ (x ++ (41 ∷ (y ++ t))))
 with-content d x b w y t e =

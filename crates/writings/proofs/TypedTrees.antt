@@ -7,10 +7,9 @@ use native.Mathlib.Omega.{arith}
 use lib.Dec.{leb}
 use lib.ListN.{length}
 use Rattle.paper.specs.Image.{imageBytes, imageRecords, imageTree}
-use Rattle.paper.specs.Query.{queryOf}
-use Rattle.paper.specs.Refusals.{Reply, Test, atEach, build, buildTests, headTests, laterTests, queryEndTests, queryPart, queryTests, madeFrom, refused, treeIn, treePart, unless, workFor}
+use Rattle.paper.specs.Refusals.{Reply, Test, atEach, build, queryPart, queryTests, madeFrom, refused, treeIn, treePart, unless, workFor}
 use Rattle.paper.specs.Stream.{StreamRecord, queryRecords, recordsOf, treeRecords}
-use Rattle.paper.specs.Tree.{Tree, lastOf, treeOf}
+use Rattle.paper.specs.Tree.{lastOf, treeOf}
 use Rattle.paper.specs.WrittenTree.{Allowed, WrittenTree, forestOf}
 use Rattle.laws.proofs.Replies.{Passes, refused-inj, refused-not-answer}
 use Rattle.writings.proofs.ImageAccepted.{records-pass}

@@ -8,9 +8,6 @@ use Rattle.tree.proofs.tell.Tie as tie
 answer-requires : tie.Need-answer-requires
 answer-requires c κs = search needs
 
-nothing-requires : tie.Need-nothing-requires
-nothing-requires c κs = search needs
-
 slice-relend-prefix-hand-on : tie.Need-slice-relend-prefix-hand-on
 slice-relend-prefix-hand-on c = search needs
 
@@ -25,10 +22,10 @@ same-length c = search needs
 
 returns : tie.Need-returns
 returns c =
-    let said = c .before .before .before .before .before .before .before .answer in
+    let said = c .before .before .before .before .before .before .answer in
     record { bytes = take (said .result) (said .last .1 .0); told = said .ensures .tells; all = λ _. c .before .before .hand-on .ensures }
 
 pub tell-spec : {M : Type 1} → statement M
 tell-spec =
     tie.close
-    (tie.spec answer-requires nothing-requires slice-relend-prefix-hand-on slice-aggregate-hand-on hand-on-requires same-length returns)
+    (tie.spec answer-requires slice-relend-prefix-hand-on slice-aggregate-hand-on hand-on-requires same-length returns)
