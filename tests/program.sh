@@ -77,6 +77,8 @@ same "README's tree" <(shown tree) "$names.tree"
 bash -c "$readme" >/dev/null 2>&1
 prints "README's example" 0 "$out/shown" bash -c "$readme"
 lines "README's example" 0
+# bash then warns on standard error, which is no failure
+prints "README's example in a locale that the host lacks" 0 "$out/shown" env LC_ALL=none ./list "$names.tree" "$names.txt"
 bash examples/streams/bytes.sh <"$names.txt" >"$out/names.query"
 { "${tree[@]}" <"$names.tree" && cat "$out/names.query"; } >"$out/names.stream"
 
