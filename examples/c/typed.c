@@ -46,18 +46,30 @@ static size_t put_query(uint8_t *query, uint8_t wanted) {
     return (size_t)(to - query);
 }
 
+/* The number that a word of digits writes; another word, or a number over 255, ends the program. Over 63 the query is refused. */
+static uint8_t label_of(const char *word) {
+    char *end;
+    long label = strtol(word, &end, 10);
+    if (word[0] < '0' || word[0] > '9' || *end != '\0' || label > 255) {
+        fprintf(stderr, "LABEL is no number from 0 to 255\n");
+        exit(2);
+    }
+    return (uint8_t)label;
+}
+
 int main(int words, char **word) {
     if (words != 3) {
         fprintf(stderr, "usage: typed LABEL TEXT\n");
         return 2;
     }
+    uint8_t label = label_of(word[1]);
     size_t tree_length = 0, text_length = 0;
     stop_if_refused("text_to_tree", tarn_text_to_tree((const uint8_t *)word[2], strlen(word[2]), stream, TARN_LONGEST_TREE, &tree_length));
     printf("tree");
     for (size_t at = 0; at < tree_length; at++) printf(" %d", stream[at]);
     printf("\n");
 
-    size_t query_length = put_query(stream + tree_length, (uint8_t)atoi(word[1]));
+    size_t query_length = put_query(stream + tree_length, label);
     uint16_t head[TARN_HEAD], node;
     uint64_t rows = 0;
     stop_if_refused("build", tarn_build(stream, tree_length + query_length, work, TARN_MOST_WORK, table, TARN_MOST_RECORDS, head));

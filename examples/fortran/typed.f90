@@ -17,12 +17,8 @@ program typed
   character(tarn_longest_text) :: text
   integer :: tree_length, text_length, label
 
-  if (command_argument_count() /= 2) then
-    write (error_unit, '(a)') 'usage: typed LABEL TEXT'
-    stop 2, quiet=.true.
-  end if
-  text = word(1)
-  read (text, *) label
+  if (command_argument_count() /= 2) call stop_unable('usage: typed LABEL TEXT')
+  label = label_of(word(1))
   call stop_if_refused('text_to_tree', tarn_text_to_tree(word(2), tree, tree_length))
   print '(a, *(1x, i0))', 'tree', tree(:tree_length)
 
@@ -48,6 +44,22 @@ contains
     allocate (character(length) :: word)
     call get_command_argument(at, word)
   end function
+
+  ! The number that a word of digits writes; another word, or a number over 255, ends the program. Over 63 the query is refused.
+  integer function label_of(digits) result(label)
+    character(*), intent(in) :: digits
+    integer :: status
+    label = 0
+    read (digits, *, iostat=status) label
+    if (verify(digits, '0123456789') /= 0 .or. status /= 0 .or. label > 255) &
+        call stop_unable('LABEL is no number from 0 to 255')
+  end function
+
+  subroutine stop_unable(why)
+    character(*), intent(in) :: why
+    write (error_unit, '(a)') why
+    stop 2, quiet=.true.
+  end subroutine
 
   ! A refusal is told and ends the program.
   subroutine stop_if_refused(asked, refused)

@@ -5,7 +5,8 @@
 //! Finds the nodes of LABEL, 0 to 63, in the tree that TEXT is the bracketed text of, as 9(5 6).
 
 use std::env;
-use std::error::Error;
+use std::ffi::{OsStr, OsString};
+use std::os::unix::ffi::OsStrExt;
 use std::process::ExitCode;
 use tarnsatchel::{
     build, count, row, text_to_tree, tree_to_text, Record, Refusal, LONGEST_TEXT, LONGEST_TREE, MOST_RECORDS, MOST_WORK,
@@ -18,18 +19,25 @@ fn told<A>(call: &str, answer: Result<A, Refusal>) -> Told<A> {
     answer.map_err(|refusal| format!("{call} {refusal}"))
 }
 
-fn words() -> Result<(u8, String), Box<dyn Error>> {
-    let words: Vec<String> = env::args().skip(1).collect();
+/// The label, and the text, which may be any bytes.
+fn words() -> Result<(u8, OsString), &'static str> {
+    let words: Vec<OsString> = env::args_os().skip(1).collect();
     match &words[..] {
-        [label, text] => Ok((label.parse()?, text.clone())),
-        _ => Err("usage: typed LABEL TEXT".into()),
+        [label, text] => Ok((label_of(label).ok_or("LABEL is no number from 0 to 255")?, text.clone())),
+        _ => Err("usage: typed LABEL TEXT"),
     }
+}
+
+/// The number that a word of digits writes, up to 255. Over 63 the query is refused.
+fn label_of(word: &OsStr) -> Option<u8> {
+    let digits = word.to_str().filter(|word| word.bytes().all(|byte| byte.is_ascii_digit()))?;
+    digits.parse().ok()
 }
 
 /// A refusal is told and ends the program.
 fn main() -> ExitCode {
     match words() {
-        Ok((label, text)) => match find(label, &text) {
+        Ok((label, text)) => match find(label, text.as_bytes()) {
             Ok(()) => ExitCode::SUCCESS,
             Err(refused) => {
                 println!("{refused}");
@@ -43,9 +51,9 @@ fn main() -> ExitCode {
     }
 }
 
-fn find(label: u8, text: &str) -> Told<()> {
+fn find(label: u8, text: &[u8]) -> Told<()> {
     let mut tree = [0; LONGEST_TREE];
-    let bytes = told("text_to_tree", text_to_tree(text.as_bytes(), &mut tree))?;
+    let bytes = told("text_to_tree", text_to_tree(text, &mut tree))?;
     let tree = &tree[..bytes];
     let records: String = tree.iter().map(|byte| format!(" {byte}")).collect();
     println!("tree{records}");
