@@ -91,6 +91,9 @@ for compiles in gcc gfortran; do
 done
 readme_prints tarnsatchel-list <(printf 'records 11\nrows 3\n4 5\n8 13\n11 13\n')
 readme_prints '{ tarnsatchel-tree' <(printf 'records 11\nrows 3\n8 27\n17 26\n20 26\n')
+echo '9(5 / 6)' >"$away/slash.tree"
+piped=$(shown '^    \({ tarnsatchel-tree .*\)')
+prints "a tree that is refused, before a query" 0 <(echo 'refused 1') in_away "${piped/names.tree/slash.tree}"
 
 # ---- the programs, of which README.md says what they ask of a host and with what they end
 
