@@ -101,7 +101,9 @@ prints "an empty stream" 1 <(echo 'refused 1') ./list /dev/null
 lines "an empty stream" 0
 prints "a stream that is too long" 1 <(echo 'refused 14') ./list <(head -c 16385 /dev/zero)
 prints "a query behind a query" 1 <(echo 'refused 3') ./list "$pairs" "$out/names.query"
-prints "a file without end" 1 <(echo 'refused 14') ./list /dev/null /dev/zero
+# to_end FILE: with bounds on its time and on the files that it writes, which hold where ./list does not bound what it reads
+to_end() { (ulimit -f 1024 && bounded ./list /dev/null "$1"); }
+prints "a file without end" 1 <(echo 'refused 14') to_end /dev/zero
 prints "a tree without a query" 1 <(echo 'refused 3') ./list "$names.tree"
 # a slash that is in no comment
 echo '9(5 / 6)' >"$out/slash.tree"
@@ -130,6 +132,9 @@ wrong_word() {
     same "$1 in a text: what is said" "$out/said" <(printf 'list: %s: line 3: %q is no number from 0 to 255\n' "$out/wrong.txt" "$1")
 }
 for word in 256 -1 05 x '*' 1.5 $'5\r'; do wrong_word "$word"; done
+printf '16 2 4\n17 1\0002 0 0\n' >"$out/zero.txt"
+prints "a zero byte in a text" 2 /dev/null ./list "$names.tree" "$out/zero.txt"
+same "a zero byte in a text: what is said" "$out/said" <(printf 'list: %s: line 2: 1\\?2 is no number from 0 to 255\n' "$out/zero.txt")
 prints "no room for a stream" 2 /dev/null env TMPDIR="$out/none" ./list "$names.tree" "$names.txt"
 lines "no room for a stream" 1
 prints "no room needed" 0 "$out/pairs" env TMPDIR="$out/none" ./list "$pairs"

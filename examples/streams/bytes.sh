@@ -14,5 +14,6 @@ while IFS= read -r text || [ -n "$text" ]; do
         printf -v byte '\\x%02x' "$number"
         bytes+=$byte
     done
-done
+# read would drop a zero byte and join what stands around it
+done < <(tr '\0' '?' 2>/dev/null)
 printf '%b' "$bytes"
