@@ -26,7 +26,8 @@ pub struct Seen {
 
 pub struct StreamTrial {
     pub case: Case,
-    pub number: usize,
+    /// By which it is shown: --stream or --text, and the number.
+    pub label: String,
 }
 
 impl Trial for StreamTrial {
@@ -44,7 +45,7 @@ impl Trial for StreamTrial {
             Gave::Nothing => Err("the driver gave no answer".to_string()),
             Gave::Left(left) => self.check(left, &expected, &mut seen),
         };
-        tally.stream(&self.case, self.number, &seen, verdict);
+        tally.stream(&self.case, &self.label, &seen, verdict);
     }
 }
 

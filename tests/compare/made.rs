@@ -5,6 +5,7 @@ use crate::cases::{self, Case, Cases};
 use crate::conversion::{Conversion, Conversions};
 use crate::image_cases;
 use crate::listings::{self, Listing, Listings};
+use crate::queried;
 use crate::questions::{self, Group, Groups};
 use crate::text_cases;
 use crate::typed::{self, Typed, TypedTexts};
@@ -43,7 +44,7 @@ impl Made {
             asked.stream.map(|number| show_stream(&self.cases.make(number))),
             asked.listing.map(|number| show_listing(&self.listings.make(number))),
             asked.group.map(|number| show_group(&self.groups.make(number))),
-            asked.text.map(|number| show_conversion(&self.texts.make(number))),
+            asked.text.map(|number| show_text(&self.texts.make(number), number)),
             asked.image.map(|number| show_conversion(&self.images.make(number))),
             asked.typed.map(|number| show_typed(&self.typed.make(number))),
         ];
@@ -67,6 +68,14 @@ fn show_group(group: &Group) {
     for (number, asked) in group.questions.iter().enumerate() {
         println!("question {number}: {:?}\nrows {:?}", asked.asking, asked.rows);
         println!("{:?}", asked.asking.expected());
+    }
+}
+
+/// And the stream of its image with a query, where that is built.
+fn show_text(case: &Conversion, number: usize) {
+    show_conversion(case);
+    if let Some((_, stream)) = queried::of_text(case, number) {
+        show_stream(&stream);
     }
 }
 

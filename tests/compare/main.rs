@@ -6,7 +6,8 @@
 //! DRIVER is the command that runs the driver, LIST and TREE those that run the programs; without them the independent programs are
 //! compared with each other, and with what is known from how an input was made, which is the test of the tests. `--stream N` prints
 //! that stream, `--listing N` that stream of the program and its text, `--group N` that group of questions, `--text N` and `--image N`
-//! that text or image and what is written, `--typed N` that text of the program. The last line is 'N passed, M failed'.
+//! that text or image and what is written, and the stream where the text is built with a query too, `--typed N` that text of the
+//! program. The last line is 'N passed, M failed'.
 
 mod arguments;
 mod asked;
@@ -65,9 +66,6 @@ const FEWEST_TYPED: usize = 300;
 const FEWEST_TEXTS: usize = 20_000;
 const FEWEST_IMAGES: usize = 5_000;
 
-/// One accepted text in so many is built with a query too.
-const QUERY_EVERY: usize = 10;
-
 /// The folder that this program, and the independent ones, were built into.
 fn folder() -> PathBuf {
     let program = std::env::current_exe().expect("this program's path");
@@ -114,7 +112,7 @@ fn check_typed(made: &Made, program: Option<&Program>, tally: &mut Tally) {
 fn check_calls(made: &Made, driver: Option<&Driver>, tally: &mut Tally) {
     let mut trials = Trials::with(driver);
     for number in 0..made.cases.len() {
-        trials.add(Box::new(StreamTrial { case: made.cases.make(number), number }), tally);
+        trials.add(Box::new(StreamTrial { case: made.cases.make(number), label: format!("stream {number}") }), tally);
     }
     for group in 0..made.groups.len() {
         let Group { kind, questions, verdict } = made.groups.make(group);
@@ -136,12 +134,10 @@ fn check_calls(made: &Made, driver: Option<&Driver>, tally: &mut Tally) {
 
 /// Of some that are accepted the image is built, with a query behind it.
 fn add_text(case: Conversion, number: usize, trials: &mut Trials, tally: &mut Tally) {
-    if number % QUERY_EVERY == 0 {
-        if let Some(image) = texts::image_of(&case.input) {
-            let case = queried::case(&mut Random::of(number as u64, case.bytes), &image);
-            tally.own(queried::KIND, &format!("text {number}"), queried::check(&case, &image));
-            trials.add(Box::new(StreamTrial { case, number }), tally);
-        }
+    if let Some((image, case)) = queried::of_text(&case, number) {
+        let label = format!("text {number}");
+        tally.own(queried::KIND, &label, queried::check(&case, &image));
+        trials.add(Box::new(StreamTrial { case, label }), tally);
     }
     add_there_and_back("text, image, text", What::Texts, case, number, trials, tally);
 }

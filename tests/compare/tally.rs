@@ -96,7 +96,7 @@ impl Tally {
         self.judge(name, What::Own, label, "", verdict);
     }
 
-    pub fn stream(&mut self, case: &Case, number: usize, seen: &Seen, verdict: Verdict) {
+    pub fn stream(&mut self, case: &Case, label: &str, seen: &Seen, verdict: Verdict) {
         let kind = self.kind(case.kind, What::Streams);
         kind.answers[seen.answer as usize] += 1;
         kind.listed += seen.rows.is_some() as usize;
@@ -105,7 +105,7 @@ impl Tally {
         kind.entries += seen.entries;
         let lent = format!("work of {}, table of {}", case.work.len(), case.table.len());
         let rest = format!(" ({lent}, stream {})", words(case.input.iter()));
-        self.judge(case.kind, What::Streams, &format!("case {number}"), &rest, verdict);
+        self.judge(case.kind, What::Streams, label, &rest, verdict);
     }
 
     pub fn listing(&mut self, case: &Listing, number: usize, told: &Told, verdict: Verdict) {
