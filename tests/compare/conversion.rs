@@ -29,7 +29,7 @@ pub enum Known {
 
 /// How long the output is, beside what is written.
 #[derive(Clone, Copy)]
-pub enum Room {
+pub enum OutputRoom {
     /// As long, or a little longer.
     Enough,
     Exact,
@@ -39,7 +39,7 @@ pub enum Room {
     Long,
 }
 
-const ROOMS: [Room; 5] = [Room::Enough, Room::Exact, Room::OneShort, Room::Empty, Room::Long];
+const ROOMS: [OutputRoom; 5] = [OutputRoom::Enough, OutputRoom::Exact, OutputRoom::OneShort, OutputRoom::Empty, OutputRoom::Long];
 
 #[derive(Clone, Debug)]
 pub struct Conversion {
@@ -53,7 +53,7 @@ pub struct Conversion {
 }
 
 /// What is converted, with what is known of it.
-pub type Made = (Vec<u8>, Known);
+pub type KnownInput = (Vec<u8>, Known);
 
 /// For an input that is refused the output is not longer than so.
 const LONGEST_OUTPUT: usize = 10_000;
@@ -76,13 +76,13 @@ impl Way {
 
 impl Conversion {
     /// With its buffers, filled with garbage so that what stays unchanged shows.
-    pub fn lend(random: &mut Random, kind: &'static str, way: Way, (input, known): Made, room: Room) -> Conversion {
+    pub fn lend(random: &mut Random, kind: &'static str, way: Way, (input, known): KnownInput, room: OutputRoom) -> Conversion {
         let length = match (way.result(&input).map(|result| result.len()), room) {
-            (Some(length), Room::Enough) => length + random.below(9),
-            (Some(length), Room::Exact) => length,
-            (Some(length), Room::OneShort) => length - 1,
-            (Some(length), Room::Long) => length + random.between(100, 2_000),
-            (_, Room::Empty) => 0,
+            (Some(length), OutputRoom::Enough) => length + random.below(9),
+            (Some(length), OutputRoom::Exact) => length,
+            (Some(length), OutputRoom::OneShort) => length - 1,
+            (Some(length), OutputRoom::Long) => length + random.between(100, 2_000),
+            (_, OutputRoom::Empty) => 0,
             // mostly enough for whatever such an input could be taken for
             (None, _) if random.chance(70) => LONGEST_OUTPUT.min(4 * input.len() + 6),
             (None, _) => random.below(20),
@@ -128,7 +128,7 @@ impl Conversion {
             (Way::ToText, _) => Known::Result(self.input.clone()),
             (Way::ToTree, _) => Known::Back(result.clone()),
         };
-        let room = if random.chance(50) { Room::Exact } else { Room::Enough };
+        let room = if random.chance(50) { OutputRoom::Exact } else { OutputRoom::Enough };
         Some(Conversion::lend(random, kind, self.way.back(), (result, known), room))
     }
 }
@@ -142,8 +142,8 @@ pub struct Limits {
 pub struct Limit {
     kind: &'static str,
     way: Way,
-    made: Made,
-    room: Room,
+    made: KnownInput,
+    room: OutputRoom,
 }
 
 pub type Conversions = Numbered<Conversion, Limit>;
@@ -153,11 +153,11 @@ impl Limits {
         Limits { way, all: Vec::new() }
     }
 
-    pub fn add(&mut self, kind: &'static str, made: Made, room: Room) {
+    pub fn add(&mut self, kind: &'static str, made: KnownInput, room: OutputRoom) {
         self.all.push(Limit { kind, way: self.way, made, room });
     }
 
-    pub fn add_in_all_rooms(&mut self, kind: &'static str, made: Made) {
+    pub fn add_in_all_rooms(&mut self, kind: &'static str, made: KnownInput) {
         ROOMS.into_iter().for_each(|room| self.add(kind, made.clone(), room));
     }
 

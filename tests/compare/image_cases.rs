@@ -1,7 +1,7 @@
 //! The tree records that are converted to texts: images of written trees, damaged ones, and those at the limits.
 
 use crate::byte_damage::{changed, cut, dropped, put_in, AnyByte, ByteDamage};
-use crate::conversion::{Conversion, Conversions, Known, Limits, Made, Room, Way};
+use crate::conversion::{Conversion, Conversions, Known, KnownInput, Limits, OutputRoom, Way};
 use crate::numbered::Kinds;
 use crate::random::Random;
 use crate::streams::{any_shape, BRANCH, LEAF};
@@ -9,30 +9,30 @@ use crate::text_cases::around_most_nodes;
 use crate::texts_by_hand::{IMAGES, NO_IMAGES};
 use crate::writings::{Written, MOST_NODES};
 
-type Make = fn(&mut Random) -> Made;
+type Make = fn(&mut Random) -> KnownInput;
 
 /// Each kind of random case, with how many there are.
 const RANDOM: &Kinds<Conversion> = &[
-    (2_000, |r| image("images", r, Room::Enough, any_image)),
-    (700, |r| image("output exact", r, Room::Exact, any_image)),
-    (700, |r| image("output one short", r, Room::OneShort, any_image)),
-    (200, |r| image("output empty", r, Room::Empty, any_image)),
-    (300, |r| image("output long", r, Room::Long, any_image)),
-    (200, |r| image("many nodes", r, Room::Enough, large)),
-    (200, |r| image("many nodes, output one short", r, Room::OneShort, large)),
-    (1_500, |r| image("a byte changed", r, Room::Enough, |r| damaged(r, changed))),
-    (800, |r| image("a byte put in", r, Room::Enough, |r| damaged(r, put_in))),
-    (800, |r| image("a byte dropped", r, Room::Enough, |r| damaged(r, dropped))),
-    (500, |r| image("cut", r, Room::Enough, |r| damaged(r, cut))),
-    (1_500, |r| image("a record moved, dropped or put in", r, Room::Enough, |r| damaged(r, record_moved))),
-    (500, |r| image("bytes behind an image", r, Room::Enough, |r| damaged(r, more_behind))),
-    (200, |r| image("a byte of many changed", r, Room::Enough, large_damaged)),
-    (500, |r| image("a pad of another label", r, Room::Enough, other_pad)),
-    (500, |r| image("a label over 63", r, Room::Enough, label_over)),
-    (500, |r| image("a root with a right sibling", r, Room::Enough, root_with_sibling)),
-    (300, |r| image("two images", r, Room::Enough, two_images)),
-    (700, |r| image("binary trees of any shape", r, Room::Enough, any_binary)),
-    (500, |r| image("any bytes that often are records", r, Room::Enough, any_bytes)),
+    (2_000, |r| image("images", r, OutputRoom::Enough, any_image)),
+    (700, |r| image("output exact", r, OutputRoom::Exact, any_image)),
+    (700, |r| image("output one short", r, OutputRoom::OneShort, any_image)),
+    (200, |r| image("output empty", r, OutputRoom::Empty, any_image)),
+    (300, |r| image("output long", r, OutputRoom::Long, any_image)),
+    (200, |r| image("many nodes", r, OutputRoom::Enough, large)),
+    (200, |r| image("many nodes, output one short", r, OutputRoom::OneShort, large)),
+    (1_500, |r| image("a byte changed", r, OutputRoom::Enough, |r| damaged(r, changed))),
+    (800, |r| image("a byte put in", r, OutputRoom::Enough, |r| damaged(r, put_in))),
+    (800, |r| image("a byte dropped", r, OutputRoom::Enough, |r| damaged(r, dropped))),
+    (500, |r| image("cut", r, OutputRoom::Enough, |r| damaged(r, cut))),
+    (1_500, |r| image("a record moved, dropped or put in", r, OutputRoom::Enough, |r| damaged(r, record_moved))),
+    (500, |r| image("bytes behind an image", r, OutputRoom::Enough, |r| damaged(r, more_behind))),
+    (200, |r| image("a byte of many changed", r, OutputRoom::Enough, large_damaged)),
+    (500, |r| image("a pad of another label", r, OutputRoom::Enough, other_pad)),
+    (500, |r| image("a label over 63", r, OutputRoom::Enough, label_over)),
+    (500, |r| image("a root with a right sibling", r, OutputRoom::Enough, root_with_sibling)),
+    (300, |r| image("two images", r, OutputRoom::Enough, two_images)),
+    (700, |r| image("binary trees of any shape", r, OutputRoom::Enough, any_binary)),
+    (500, |r| image("any bytes that often are records", r, OutputRoom::Enough, any_bytes)),
 ];
 
 pub fn all(seed: u64) -> Conversions {
@@ -48,7 +48,7 @@ pub fn all(seed: u64) -> Conversions {
 /// Other numbers than those that make the streams and the texts.
 const IMAGES_APART: u64 = 0x696d_6167_6573;
 
-fn image(kind: &'static str, random: &mut Random, room: Room, make: Make) -> Conversion {
+fn image(kind: &'static str, random: &mut Random, room: OutputRoom, make: Make) -> Conversion {
     let made = make(random);
     Conversion::lend(random, kind, Way::ToText, made, room)
 }
@@ -59,12 +59,12 @@ fn image_of(text: &[u8]) -> Vec<u8> {
     texts::image_of(text).expect("a text of a written tree")
 }
 
-fn any_image(random: &mut Random) -> Made {
+fn any_image(random: &mut Random) -> KnownInput {
     let text = Written::small(random).text();
     (image_of(&text), Known::Result(text))
 }
 
-fn large(random: &mut Random) -> Made {
+fn large(random: &mut Random) -> KnownInput {
     let text = Written::large(random).text();
     (image_of(&text), Known::Result(text))
 }
@@ -112,50 +112,50 @@ fn more_behind(random: &mut Random, bytes: &mut Vec<u8>, any_byte: AnyByte) {
     }
 }
 
-fn damaged(random: &mut Random, damage: ByteDamage) -> Made {
+fn damaged(random: &mut Random, damage: ByteDamage) -> KnownInput {
     let (mut bytes, _) = any_image(random);
     damage(random, &mut bytes, any_byte);
     (bytes, Known::Nothing)
 }
 
-fn large_damaged(random: &mut Random) -> Made {
+fn large_damaged(random: &mut Random) -> KnownInput {
     let (mut bytes, _) = large(random);
     changed(random, &mut bytes, any_byte);
     (bytes, Known::Nothing)
 }
 
 /// The label of some record of a kind becomes another one.
-fn relabelled(random: &mut Random, kind: u8, label: usize) -> Made {
+fn relabelled(random: &mut Random, kind: u8, label: usize) -> KnownInput {
     let (mut bytes, _) = any_image(random);
     let records: Vec<usize> = (0..bytes.len()).step_by(2).filter(|&at| bytes[at] == kind).collect();
     bytes[random.pick(&records) + 1] = label as u8;
     (bytes, Known::Refused)
 }
 
-fn other_pad(random: &mut Random) -> Made {
+fn other_pad(random: &mut Random) -> KnownInput {
     let label = random.between(1, 255);
     relabelled(random, LEAF, label)
 }
 
-fn label_over(random: &mut Random) -> Made {
+fn label_over(random: &mut Random) -> KnownInput {
     let label = random.between(64, 255);
     relabelled(random, BRANCH, label)
 }
 
 /// Two written trees as children of one, without the pad and the branch of that.
-fn root_with_sibling(random: &mut Random) -> Made {
+fn root_with_sibling(random: &mut Random) -> KnownInput {
     let two = [Written::small(random).text(), Written::small(random).text()].join(&b' ');
     let mut bytes = image_of(&[b"9(", two.as_slice(), b")"].concat());
     bytes.truncate(bytes.len() - 4);
     (bytes, Known::Refused)
 }
 
-fn two_images(random: &mut Random) -> Made {
+fn two_images(random: &mut Random) -> KnownInput {
     ([any_image(random).0, any_image(random).0].concat(), Known::Refused)
 }
 
 /// Pads and branches, so that many are images and as many have a root with a right sibling.
-fn any_binary(random: &mut Random) -> Made {
+fn any_binary(random: &mut Random) -> KnownInput {
     let (leaves, joining) = (random.between(1, 12), random.pick(&[0, 20, 50, 80, 100]));
     let kinds = any_shape(random, leaves, joining);
     let mut bytes: Vec<u8> =
@@ -166,7 +166,7 @@ fn any_binary(random: &mut Random) -> Made {
     (bytes, Known::Nothing)
 }
 
-fn any_bytes(random: &mut Random) -> Made {
+fn any_bytes(random: &mut Random) -> KnownInput {
     ((0..random.below(30)).map(|_| any_byte(random)).collect(), Known::Nothing)
 }
 
@@ -186,7 +186,7 @@ fn each_byte(limits: &mut Limits) {
     let (_, image) = IMAGES[0];
     for (at, byte) in (0..image.len()).flat_map(|at| (0..=255).map(move |byte| (at, byte))) {
         let input = [&image[..at], &[byte], &image[at + 1..]].concat();
-        limits.add("limit: each byte, everywhere", (input, Known::Nothing), Room::Enough);
+        limits.add("limit: each byte, everywhere", (input, Known::Nothing), OutputRoom::Enough);
     }
 }
 
@@ -198,7 +198,7 @@ fn short_trees(limits: &mut Limits) {
         for _ in 0..longest {
             trees = trees.iter().flat_map(|tree| out_of.iter().map(move |record| [tree.as_slice(), &[*record]].concat())).collect();
             for tree in &trees {
-                limits.add("limit: all of few records", (tree.concat(), Known::Nothing), Room::Enough);
+                limits.add("limit: all of few records", (tree.concat(), Known::Nothing), OutputRoom::Enough);
             }
         }
     }
@@ -211,8 +211,8 @@ fn most_nodes(limits: &mut Limits) {
     for written in around_most_nodes().into_iter().filter(|written| written.0.len() <= MOST_NODES) {
         let text = written.text();
         let image = image_of(&text);
-        limits.add(kind, (image[..image.len() - 2].to_vec(), Known::Refused), Room::Enough);
-        limits.add(kind, ([image.as_slice(), &[LEAF, 0]].concat(), Known::Refused), Room::Enough);
+        limits.add(kind, (image[..image.len() - 2].to_vec(), Known::Refused), OutputRoom::Enough);
+        limits.add(kind, ([image.as_slice(), &[LEAF, 0]].concat(), Known::Refused), OutputRoom::Enough);
         for more in 0..=2 {
             let input = [image.as_slice(), &[LEAF, 0, BRANCH, 7].repeat(more)].concat();
             let is_small = written.0.len() + more <= MOST_NODES;

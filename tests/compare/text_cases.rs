@@ -1,33 +1,33 @@
 //! The texts that are converted to trees: valid ones with all that may stand in them, damaged ones, and those at the limits.
 
 use crate::byte_damage::{changed, cut, dropped, put_in, ByteDamage};
-use crate::conversion::{Conversion, Conversions, Known, Limits, Made, Room, Way};
+use crate::conversion::{Conversion, Conversions, Known, KnownInput, Limits, OutputRoom, Way};
 use crate::numbered::Kinds;
 use crate::random::Random;
 use crate::texts_by_hand::{IMAGES, TEXTS};
 use crate::writings::{any_depths, any_gaps, chain, is_number, joined, row, Written, MOST_NODES};
 
-type Make = fn(&mut Random) -> Made;
+type Make = fn(&mut Random) -> KnownInput;
 
 /// Each kind of random case, with how many there are.
 const RANDOM: &Kinds<Conversion> = &[
-    (1_500, |r| text("as the way back writes them", r, Room::Enough, plain)),
-    (5_000, |r| text("blanks, line ends and comments anywhere", r, Room::Enough, spaced)),
-    (1_500, |r| text("output exact", r, Room::Exact, spaced)),
-    (1_500, |r| text("output one short", r, Room::OneShort, spaced)),
-    (300, |r| text("output empty", r, Room::Empty, spaced)),
-    (700, |r| text("output long", r, Room::Long, spaced)),
-    (300, |r| text("many nodes", r, Room::Enough, large)),
-    (200, |r| text("many nodes, output one short", r, Room::OneShort, large)),
-    (3_000, |r| text("a byte changed", r, Room::Enough, |r| damaged(r, changed))),
-    (3_000, |r| text("a byte put in", r, Room::Enough, |r| damaged(r, put_in))),
-    (3_000, |r| text("a byte dropped", r, Room::Enough, |r| damaged(r, dropped))),
-    (1_000, |r| text("cut", r, Room::Enough, |r| damaged(r, cut))),
-    (300, |r| text("a byte of many changed", r, Room::Enough, large_damaged)),
-    (1_500, |r| text("a wrong character between words", r, Room::Enough, wrong_character)),
-    (1_500, |r| text("a wrong number", r, Room::Enough, wrong_number)),
-    (2_000, |r| text("a word moved, dropped or put in", r, Room::Enough, words_damaged)),
-    (1_000, |r| text("any bytes that often are words", r, Room::Enough, any_bytes)),
+    (1_500, |r| text("as the way back writes them", r, OutputRoom::Enough, plain)),
+    (5_000, |r| text("blanks, line ends and comments anywhere", r, OutputRoom::Enough, spaced)),
+    (1_500, |r| text("output exact", r, OutputRoom::Exact, spaced)),
+    (1_500, |r| text("output one short", r, OutputRoom::OneShort, spaced)),
+    (300, |r| text("output empty", r, OutputRoom::Empty, spaced)),
+    (700, |r| text("output long", r, OutputRoom::Long, spaced)),
+    (300, |r| text("many nodes", r, OutputRoom::Enough, large)),
+    (200, |r| text("many nodes, output one short", r, OutputRoom::OneShort, large)),
+    (3_000, |r| text("a byte changed", r, OutputRoom::Enough, |r| damaged(r, changed))),
+    (3_000, |r| text("a byte put in", r, OutputRoom::Enough, |r| damaged(r, put_in))),
+    (3_000, |r| text("a byte dropped", r, OutputRoom::Enough, |r| damaged(r, dropped))),
+    (1_000, |r| text("cut", r, OutputRoom::Enough, |r| damaged(r, cut))),
+    (300, |r| text("a byte of many changed", r, OutputRoom::Enough, large_damaged)),
+    (1_500, |r| text("a wrong character between words", r, OutputRoom::Enough, wrong_character)),
+    (1_500, |r| text("a wrong number", r, OutputRoom::Enough, wrong_number)),
+    (2_000, |r| text("a word moved, dropped or put in", r, OutputRoom::Enough, words_damaged)),
+    (1_000, |r| text("any bytes that often are words", r, OutputRoom::Enough, any_bytes)),
 ];
 
 pub fn all(seed: u64) -> Conversions {
@@ -43,24 +43,24 @@ pub fn all(seed: u64) -> Conversions {
 /// Other numbers than those that make the streams.
 const TEXTS_APART: u64 = 0x7465_7874;
 
-fn text(kind: &'static str, random: &mut Random, room: Room, make: Make) -> Conversion {
+fn text(kind: &'static str, random: &mut Random, room: OutputRoom, make: Make) -> Conversion {
     let made = make(random);
     Conversion::lend(random, kind, Way::ToTree, made, room)
 }
 
 // ---- valid
 
-fn plain(random: &mut Random) -> Made {
+fn plain(random: &mut Random) -> KnownInput {
     let text = Written::small(random).text();
     (text.clone(), Known::Back(text))
 }
 
-pub fn spaced(random: &mut Random) -> Made {
+pub fn spaced(random: &mut Random) -> KnownInput {
     let written = Written::small(random);
     (written.spaced(random), Known::Back(written.text()))
 }
 
-pub fn large(random: &mut Random) -> Made {
+pub fn large(random: &mut Random) -> KnownInput {
     let written = Written::large(random);
     (written.spaced(random), Known::Back(written.text()))
 }
@@ -76,18 +76,18 @@ fn any_byte(random: &mut Random) -> u8 {
     }
 }
 
-fn damaged(random: &mut Random, damage: ByteDamage) -> Made {
+fn damaged(random: &mut Random, damage: ByteDamage) -> KnownInput {
     let (mut text, _) = if random.chance(30) { plain(random) } else { spaced(random) };
     damage(random, &mut text, any_byte);
     (text, Known::Nothing)
 }
 
-pub fn any_damage(random: &mut Random) -> Made {
+pub fn any_damage(random: &mut Random) -> KnownInput {
     let damage = random.pick(&[changed as ByteDamage, put_in, dropped, cut]);
     damaged(random, damage)
 }
 
-fn large_damaged(random: &mut Random) -> Made {
+fn large_damaged(random: &mut Random) -> KnownInput {
     let (mut text, _) = large(random);
     changed(random, &mut text, any_byte);
     (text, Known::Nothing)
@@ -99,7 +99,7 @@ const WRONG: &[&[u8]] = &[
     b".", b":", b";", b"[", b"]", b"{", b"}", b"#", b"%", b"\\", b"a", b"x", b"~", b"\x7f", b"\x80", b"\x85", b"\xa0", b"\xb0", b"\xff",
 ];
 
-pub fn wrong_character(random: &mut Random) -> Made {
+pub fn wrong_character(random: &mut Random) -> KnownInput {
     let words = Written::small(random).words();
     let (wrong, at) = (random.pick(WRONG), random.between(0, words.len()));
     let (mut gaps, mut gap) = (any_gaps(random), 0);
@@ -117,7 +117,7 @@ const NO_LABELS: &[&str] = &[
     "18446744073709551616", "18446744073709551621", "184467440737095516210", "00000000000000000000005",
 ];
 
-pub fn wrong_number(random: &mut Random) -> Made {
+pub fn wrong_number(random: &mut Random) -> KnownInput {
     let mut words = Written::small(random).words();
     let numbers: Vec<usize> = (0..words.len()).filter(|&at| is_number(&words[at])).collect();
     let number = random.below(300);
@@ -129,7 +129,7 @@ pub fn wrong_number(random: &mut Random) -> Made {
     (joined(&words, any_gaps(random)), Known::Refused)
 }
 
-fn words_damaged(random: &mut Random) -> Made {
+fn words_damaged(random: &mut Random) -> KnownInput {
     let mut words = Written::small(random).words();
     let (from, to) = (random.below(words.len()), random.below(words.len()));
     match random.below(5) {
@@ -142,7 +142,7 @@ fn words_damaged(random: &mut Random) -> Made {
     (joined(&words, any_gaps(random)), Known::Nothing)
 }
 
-fn any_bytes(random: &mut Random) -> Made {
+fn any_bytes(random: &mut Random) -> KnownInput {
     ((0..random.below(30)).map(|_| any_byte(random)).collect(), Known::Nothing)
 }
 
@@ -161,7 +161,7 @@ fn by_hand(limits: &mut Limits) {
 /// Every byte alone, in each place of a small text and between any two of its bytes, and in a comment behind it.
 fn single_bytes(limits: &mut Limits) {
     let small = b"9(5 6)";
-    let mut add = |input: Vec<u8>| limits.add("limit: each byte, everywhere", (input, Known::Nothing), Room::Enough);
+    let mut add = |input: Vec<u8>| limits.add("limit: each byte, everywhere", (input, Known::Nothing), OutputRoom::Enough);
     for byte in 0..=255 {
         add(vec![byte]);
         (0..=small.len()).for_each(|at| add([&small[..at], &[byte], &small[at..]].concat()));
@@ -175,7 +175,7 @@ fn short_texts(limits: &mut Limits) {
     let mut texts: Vec<Vec<u8>> = vec![Vec::new()];
     for length in 0..=LONGEST_SHORT {
         for text in &texts {
-            limits.add("limit: all of five bytes", (text.clone(), Known::Nothing), Room::Enough);
+            limits.add("limit: all of at most five bytes", (text.clone(), Known::Nothing), OutputRoom::Enough);
         }
         if length < LONGEST_SHORT {
             texts = texts.iter().flat_map(|text| b" \n!()06/".map(|byte| [text.as_slice(), &[byte]].concat())).collect();
@@ -190,8 +190,8 @@ fn most_nodes(limits: &mut Limits) {
     let kind = "limit: 2,047 nodes and more";
     for written in around_most_nodes() {
         let (text, spaced) = (written.text(), written.spaced(&mut Random::of(9, written.0.len() as u64)));
-        limits.add(kind, (text[..text.len() - 1].to_vec(), Known::Refused), Room::Enough);
-        limits.add(kind, ([text.as_slice(), b")"].concat(), Known::Refused), Room::Enough);
+        limits.add(kind, (text[..text.len() - 1].to_vec(), Known::Refused), OutputRoom::Enough);
+        limits.add(kind, ([text.as_slice(), b")"].concat(), Known::Refused), OutputRoom::Enough);
         for input in [text, spaced] {
             limits.add_in_all_rooms(kind, (input, known_of(&written)));
         }
@@ -231,7 +231,7 @@ fn long_texts(limits: &mut Limits) {
 const LONG: usize = 70_000;
 
 /// In each there are at least so many bytes of one thing.
-fn long_cases(length: usize) -> Vec<Made> {
+fn long_cases(length: usize) -> Vec<KnownInput> {
     let many = |piece: &str| piece.repeat(length / piece.len() + 1);
     let right = [
         (many(" ") + "5", "5"),

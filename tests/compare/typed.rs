@@ -1,6 +1,6 @@
 //! The texts that go through the program `tree`, and the judge: what it writes against what `texts` says, whole.
 
-use crate::conversion::Made;
+use crate::conversion::KnownInput;
 use crate::numbered::{Kinds, Numbered};
 use crate::program::Program;
 use crate::random::Random;
@@ -50,7 +50,7 @@ impl Typed {
     }
 }
 
-fn any(kind: &'static str, random: &mut Random, make: fn(&mut Random) -> Made) -> Typed {
+fn any(kind: &'static str, random: &mut Random, make: fn(&mut Random) -> KnownInput) -> Typed {
     let (input, _) = make(random);
     Typed::of(kind, random, input)
 }
