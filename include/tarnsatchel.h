@@ -107,7 +107,9 @@ uint8_t tarn_fix(const uint16_t head[TARN_HEAD], const tarn_record *source, size
  * The text has one root. A label is a decimal number 0 to 63 without leading zeros; its children follow in round brackets, as
  * in 9(5 6), and brackets with nothing between them mean no children. Blanks and line ends (bytes 32 and 10) may stand
  * anywhere but inside a number, and one must stand between two numbers. A comment, from an exclamation mark to the next line
- * end or the text's end, may stand where a blank may. Any other byte is wrong, also a slash, a tab and a carriage return.
+ * end or the text's end, may stand where a blank may; that line end separates two numbers as any other does. Any other byte is
+ * wrong, also a slash, a tab and a carriage return, and the zero that ends a C string: it is not part of the text, and
+ * text_length does not count it.
  * The image: every written node is a branch, with its first child left and its next sibling right, and a missing one is a pad,
  * a leaf of label 0. n written nodes give 2n + 1 nodes, which are 4n + 2 bytes. 9(5 6) gives seven: pads 0, 1, 2, branch 6 as
  * node 3, branch 5 as node 4, pad 5, branch 9 as node 6.

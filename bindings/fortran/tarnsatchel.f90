@@ -197,7 +197,8 @@ contains
         sixteen_bits(place), sixteen_bits(node), target, size(target, kind=c_size_t), fixed)
   end function
 
-  ! Makes tree records of bracketed text: tree(:bytes). Refused 15, 10.
+  ! Makes tree records of bracketed text: tree(:bytes). Lines that are read one by one need new_line('a') between them, which ends
+  ! a comment and separates two numbers. Refused 15, 10.
   function tarn_text_to_tree(text, tree, bytes) result(refused)
     character(*, c_char), intent(in) :: text
     integer(c_int8_t), contiguous, intent(inout) :: tree(:)
