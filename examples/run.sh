@@ -22,14 +22,14 @@ show() {
     prints "$language, too few words" 2 /dev/null "$@" examples/streams/pairs.stream
 }
 
-# times NUMBER WORDS: so many times, one behind the other
-times() { printf "$2%.0s" $(seq "$1"); }
+# repeat NUMBER WORDS: so many times, one behind the other
+repeat() { printf "$2%.0s" $(seq "$1"); }
 # The most written nodes, 2,047 of label 63: all but the root in a row inside of it, and each inside of the one before. Of a row the
 # children's pads come first, then the pad behind the last child, then the children, the last first. From the innermost outwards each has
 # a pad and itself, but the innermost two pads.
-printf '%s\n' "tree$(times 2047 ' 1 0')$(times 2046 ' 2 63') 1 0 2 63" 'rows 2047' 4094 $(seq 4092 -1 2047) \
-    "text 63(63$(times 2045 ' 63'))" >"$out/row"
-printf '%s\n' "tree 1 0$(times 2047 ' 1 0 2 63')" 'rows 2047' $(seq 4094 -2 2) "text 63$(times 2046 '(63')$(times 2046 ')')" >"$out/nest"
+printf '%s\n' "tree$(repeat 2047 ' 1 0')$(repeat 2046 ' 2 63') 1 0 2 63" 'rows 2047' 4094 $(seq 4092 -1 2047) \
+    "text 63(63$(repeat 2045 ' 63'))" >"$out/row"
+printf '%s\n' "tree 1 0$(repeat 2047 ' 1 0 2 63')" 'rows 2047' $(seq 4094 -2 2) "text 63$(repeat 2046 '(63')$(repeat 2046 ')')" >"$out/nest"
 
 # typed LANGUAGE COMMAND ..: on a tree that is not written canonically, on README.md's, on the shortest, on the most nodes, on texts that
 # are refused, with a label that the query refuses, and with words that it cannot take
@@ -39,8 +39,8 @@ typed() {
     prints "$language, a typed tree" 0 examples/typed.expected "$@" 5 '9 (5 6()  9(5 6 6)) ! 5 // 6'
     prints "$language, seven nodes" 0 <(printf '%s\n' 'tree 1 0 1 0 1 0 2 6 2 5 1 0 2 9' 'rows 1' 3 'text 9(5 6)') "$@" 6 '9(5 6)'
     prints "$language, a label that is not there" 0 <(printf '%s\n' 'tree 1 0 1 0 2 0' 'rows 0' 'text 0') "$@" 5 '0()'
-    prints "$language, a row of the most nodes" 0 "$out/row" "$@" 63 "63($(times 2046 ' 63'))"
-    prints "$language, a nest of the most nodes" 0 "$out/nest" "$@" 63 "63$(times 2046 '(63')$(times 2046 ')')"
+    prints "$language, a row of the most nodes" 0 "$out/row" "$@" 63 "63($(repeat 2046 ' 63'))"
+    prints "$language, a nest of the most nodes" 0 "$out/nest" "$@" 63 "63$(repeat 2046 '(63')$(repeat 2046 ')')"
     prints "$language, a slash" 1 <(echo 'text_to_tree refused 15') "$@" 5 '9(5 / 6)'
     prints "$language, no text" 1 <(echo 'text_to_tree refused 15') "$@" 5 ''
     prints "$language, no UTF-8" 1 <(echo 'text_to_tree refused 15') "$@" 5 $'\xff'
