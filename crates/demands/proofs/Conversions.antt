@@ -1,7 +1,7 @@
 -- The two calls between text and tree, known by their contracts alone: one answer each, refused exactly where a cause applies.
 -- First a law for both calls, then each.
 use mathlib.Core.List.{List}
-use mathlib.Core.Logic.{_↔_, inl, inr, ⊎-elim}
+use mathlib.Core.Logic.{inl, inr, ⊎-elim}
 use mathlib.Core.Path.{_≡_, refl, sym, _∙_, ap, subst}
 use Prim.Native.Nat.{ℕ}
 use native.Mathlib.Omega.{arith}

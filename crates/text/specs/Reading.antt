@@ -1,6 +1,6 @@
 -- What the code of the pass holds, read as what the pass keeps: a struct of numbers, and two lent buffers.
 -- First the reading, then the room that there always is, then what the functions of the pass leave.
-use mathlib.Core.Bool.{Bool, true, false, cond}
+use mathlib.Core.Bool.{Bool, true, cond}
 use mathlib.Core.List.{List, _++_}
 use mathlib.Core.Path.{_≡_}
 use Prim.Native.Nat.{ℕ, _+_, _*_, _≤_, _<_}

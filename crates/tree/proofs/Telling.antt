@@ -12,7 +12,6 @@ use Rattle.paper.specs.Answers.{numberOf, saysConverted, told}
 use Rattle.paper.specs.Conversions.{TreeReply, no-room, of-none, the-result}
 use Rattle.paper.specs.Image.{imageBytes}
 use Rattle.paper.specs.Refusals.{Reply, answer, outputAfter, refused}
-use Rattle.paper.specs.WrittenTree.{WrittenTree}
 use Rattle.laws.proofs.Replies.{answer-inj, refused-inj, refused-not-answer}
 use Rattle.writings.proofs.ImageTrees.{image-short}
 use Rattle.writings.proofs.Texts.{one-tree, writes-allowed}

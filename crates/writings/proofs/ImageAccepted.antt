@@ -1,5 +1,5 @@
 -- The image of an allowed tree passes every test of document 01's tree part: labels at most 63, at most 4,095 nodes, one subtree.
-use mathlib.Core.Path.{_≡_, refl, sym, _∙_, ap, subst}
+use mathlib.Core.Path.{_≡_, refl, sym, _∙_, ap}
 use mathlib.Core.Bool.{true, not}
 use mathlib.Core.List.{List, [], _∷_, _++_, append-assoc, append-nil}
 use Prim.Native.Nat.{ℕ, _+_, _≤_, _<_}
@@ -8,15 +8,15 @@ use borrow.Author.Tests.{lt-ltb, le-leb}
 use lib.Dec.{eqb, leb, ltb}
 use lib.ListN.{length}
 use Rattle.paper.specs.Lists.{through, isNil}
-use Rattle.paper.specs.Stream.{StreamRecord, recordsOf, treeRecords}
+use Rattle.paper.specs.Stream.{StreamRecord}
 use Rattle.paper.specs.Tree.{Tree, grow}
 use Rattle.paper.specs.Refusals.{Test, atEach, treeTests, treeEndTests, treePart}
 use Rattle.laws.proofs.Lists.{through-append}
 use Rattle.laws.proofs.Replies.{Passes, passes-append, passes-left, passes-right}
 use Rattle.laws.proofs.ReadTree.{next-node}
 use Rattle.paper.specs.WrittenTree.{Forest, nil, tree, WrittenTree, forestOf, LabelsFit, Allowed}
-use Rattle.paper.specs.Image.{imageNodes, imageFrom, imageRecords, imageBytes}
-use Rattle.writings.proofs.ImageTrees.{image-grown, image-records-length, records-of-image, image-tree-records}
+use Rattle.paper.specs.Image.{imageNodes, imageFrom, imageRecords}
+use Rattle.writings.proofs.ImageTrees.{image-grown, image-records-length}
 
 at-each-append : (tests : List StreamRecord → StreamRecord → List Test) (before xs ys : List StreamRecord)
     → Passes (atEach tests before xs) → Passes (atEach tests (before ++ xs) ys) → Passes (atEach tests before (xs ++ ys))
