@@ -9,7 +9,7 @@ use lib.ListN.{drop, length}
 use Rattle.paper.specs.Stream.{recordsOf}
 use Rattle.stream.specs.Positions.{NextRule}
 use Rattle.building.specs.Batch.{Record, recordsIn}
-use Rattle.building.specs.Bounds.{batchRecords, ruleRecords}
+use Rattle.building.specs.Bounds.{batchRecords, waitingRecords}
 use Rattle.building.specs.Standing.{Filling, Standing, State, Stepped}
 use Rattle.building.specs.States.{counted, more}
 use Rattle.building.proofs.Limits.{rules-counted}
@@ -27,12 +27,12 @@ pub record Ran (input : List ℕ) (t : State) (work : List ℕ) (base : List Rec
   rest : drop (t .asked) work′ ≡ drop (t .asked) work
   fewer : ((count ≡ t .count) × (rule ≡ t .rule)) ⊎ (length (recordsOf (drop rule input)) < length (recordsOf (drop (t .rule) input)))
 
-module _ (input : List ℕ) (t : State) (work batch : List ℕ) (base : List Record) (f : Filling input t work batch base) (few : t .count ≤ ruleRecords) where
+module _ (input : List ℕ) (t : State) (work batch : List ℕ) (base : List Record) (f : Filling input t work batch base) (few : t .count ≤ waitingRecords) where
   pub ran-starts : Ran input t work base (t .count) (t .rule) work batch
   ran-starts = record { standing = f .standing; few = omega arith; rest = refl; fewer = inl (refl, refl) }
 
   module _ {count rule : ℕ} {work′ batch′ : List ℕ} (r : Ran input t work base count rule work′ batch′) where
-    pub ran-onward : count ≤ ruleRecords → {count″ next : ℕ} {work″ batch″ : List ℕ}
+    pub ran-onward : count ≤ waitingRecords → {count″ next : ℕ} {work″ batch″ : List ℕ}
         → Onward input (more t count rule) work′ base count″ next work″ batch″ → Ran input t work base count″ next work″ batch″
     ran-onward room {next = next} o = record {
       standing = o .standing;
@@ -41,7 +41,7 @@ module _ (input : List ℕ) (t : State) (work batch : List ℕ) (base : List Rec
       fewer = inr (⊎-elim (λ w. omega (arith, o .fewer, ap (λ x. length (recordsOf (drop x input))) (w .1))) (λ l. omega (arith, o .fewer)) (r .fewer));
     }
 
-    pub ran-ends : t .rule < length input → (ruleRecords < count) ⊎ (length input ≤ rule) → {s : State} → s ≡ counted t count rule
+    pub ran-ends : t .rule < length input → (waitingRecords < count) ⊎ (length input ≤ rule) → {s : State} → s ≡ counted t count rule
         → Stepped input t work base s work′ batch′
     ran-ends h ended e =
         subst (λ x. Stepped input t work base x work′ batch′) (sym e)

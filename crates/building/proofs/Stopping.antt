@@ -15,7 +15,7 @@ use Rattle.paper.specs.Stream.{StreamRecord, recordsOf, treeRecords}
 use Rattle.paper.specs.Tree.{root}
 use Rattle.laws.proofs.Replies.{Passes}
 use Rattle.building.specs.Batch.{Made, Makes, Record, Set, empty, recordsIn, setIn}
-use Rattle.building.specs.Bounds.{ruleRecords}
+use Rattle.building.specs.Bounds.{fieldNumbers, waitingRecords}
 use Rattle.building.specs.Frames.{FrameIs, width}
 use Rattle.building.specs.NodeOrder.{Stack, fromNode}
 use Rattle.building.specs.Roots.{UnitedTo, unitedTo}
@@ -71,7 +71,7 @@ module _ (input : List ℕ) (t : State) (work : List ℕ) (before : List Record)
       ∙ ap (λ n. through (acceptStep recordSets (queryIn input) n (s .slots)) (before, empty) (upTo (queryIn input .states))) root-number
 
 -- ---- the turn
-module _ (input : List ℕ) (t : State) (work batch : List ℕ) (base : List Record) (f : Filling input t work batch base) (few : t .count ≤ ruleRecords)
+module _ (input : List ℕ) (t : State) (work batch : List ℕ) (base : List Record) (f : Filling input t work batch base) (few : t .count ≤ waitingRecords)
     (done : length input ≤ t .rule) (last : t .nodes ≤ t .node + 1) (m : Made) (batch′ : List ℕ)
     (u : UnitedTo input t work (t .states) batch m batch′) where
   abbrev s : Standing input t work (base ++ recordsIn (t .count) batch)
@@ -81,6 +81,10 @@ module _ (input : List ℕ) (t : State) (work batch : List ℕ) (base : List Rec
   united =
       u (s .slots)
       (subst (λ n. FrameIs (t .arity) (t .states) work (n * width (t .arity) (t .states)) (s .slots)) (sym (s .node .high)) (s .frames .frames .0))
+
+  -- its number fits the state's field
+  pub set-fits : m .set < fieldNumbers
+  set-fits = omega (arith, united .at-hand, united .few, few-states-here input t (s .constants) (s .node), few, f .few, s .constants .limit)
 
   result : made (queryIn input) (treeIn input) ≡ (base ++ recordsIn (m .count) batch′, setIn (m .set))
   result =

@@ -8,7 +8,7 @@ use Prim.Native.Nat.{_+_, _<_, _≤_, ℕ}
 use native.Mathlib.Omega.{arith}
 use lib.ListN.{drop, length}
 use Rattle.building.specs.Batch.{Record, recordsIn}
-use Rattle.building.specs.Bounds.{ruleRecords}
+use Rattle.building.specs.Bounds.{waitingRecords}
 use Rattle.building.specs.Standing.{AtRule, Filling, Standing, State, Stepped}
 use Rattle.building.specs.States.{emptied}
 use Rattle.building.proofs.Limits.{constants-stay}
@@ -46,7 +46,7 @@ module _ (input : List ℕ) (t : State) (work : List ℕ) (base : List Record) w
     filled-onward {s″} {work″} {batch″} d =
         inr (⊎-elim (λ w. subst₂ (λ x y. Stepped input x y base s″ work″ batch″) (w .0) (w .1) d) (λ w. then-stepped w d) r)
 
-    pub filled-ends : t .going ≡ true → t .count ≡ 0 → (s .going ≡ false) ⊎ (ruleRecords < s .count) → Stepped input t work base s work′ batch′
+    pub filled-ends : t .going ≡ true → t .count ≡ 0 → (s .going ≡ false) ⊎ (waitingRecords < s .count) → Stepped input t work base s work′ batch′
     filled-ends going none ended = ⊎-elim (λ w. absurd (not-at-once (w .0))) (λ w. w) r
       where
         not-at-once : s ≡ t → ⊥

@@ -16,7 +16,7 @@ use lib.Pow.{pow-mono, pow-pos}
 use Rattle.paper.specs.Lists.{each, upTo}
 use Rattle.laws.proofs.Bound.{few-beside}
 use Rattle.building.specs.Batch.{RoomFor, recordsIn}
-use Rattle.building.specs.Bounds.{batchRecords, fieldNumbers, mostFlags, ruleRecords, ruleSplits, splitRecords}
+use Rattle.building.specs.Bounds.{batchRecords, fieldNumbers, mostFlags, waitingRecords, ruleSplits, splitRecords}
 use Rattle.building.specs.Rules.{Branch, Branches, FlagsOf, OneShelf, Room, Runs, Stands, Unites, flagsAt, pairAt, splitsRun}
 use Rattle.building.specs.Slots.{marksAt, slotAt}
 use Rattle.building.proofs.Marks.{Rest, first-below, first-onward, firstMark, laterMarks, none-between, rest-ends, rest-onward, rest-starts}
@@ -232,7 +232,7 @@ module _ {rule : Branch} {k : ℕ} {B W : List ℕ} {n count : ℕ} {B′ W′ :
   pub beside-room : Room rule count B′ W′
   beside-room = room-stays batch-kept work-kept (done .shelf) room
 
-  pub beside-few : k ≤ ruleRecords → count + splitRecords * length (flagsAt (rule .own) (rule .size) n) ≤ batchRecords
+  pub beside-few : k ≤ waitingRecords → count + splitRecords * length (flagsAt (rule .own) (rule .size) n) ≤ batchRecords
   beside-few few =
       let flags = flagsAt (rule .own) (rule .size) in
       omega (
@@ -314,6 +314,22 @@ module _ {rule : Branch} {k : ℕ} {B W : List ℕ} (room : Room rule k B W) whe
           marked = m .shelf .marked;
         };
       }
+
+  -- nothing at all on the right side: the splits beside any left flag change nothing
+  beside-none : marksAt W (rule .right) ≡ 0 → (b : ℕ) → b < rule .size → Runs (flagsAt (rule .own) (rule .size) b) rule k B W k B W
+  beside-none e b h = go (eqb (bitAnd (rule .own) b) 0) refl
+    where
+      go : (c : Bool) → eqb (bitAnd (rule .own) b) 0 ≡ c → Runs (flagsAt (rule .own) (rule .size) b) rule k B W k B W
+      go true a =
+          let apart = eqb-true (bitAnd (rule .own) b) 0 a in
+          right-ends room h apart (right-starts room h apart) e
+      go false a = rw (flags-none (rule .own) b (rule .size) (eqb-false (bitAnd (rule .own) b) 0 a)) (none-run k B W (room .low))
+
+  pub right-none : marksAt W (rule .right) ≡ 0 → Branches rule k B W k B W
+  right-none e =
+      all-done
+      (climbs (λ x. Runs (each (upTo x) (flagsAt (rule .own) (rule .size))) rule k B W k B W) (rule .size) 0 (rule .size) (omega arith)
+      (λ b from to done. with-left (left-at refl refl b to done) k B W (beside-none e b to)) (none-run k B W (room .low)))
 
   module _ {marks count : ℕ} {B′ W′ : List ℕ} (s : LeftLoop rule k B W marks count B′ W′) where
     pub left-ends : marks ≡ 0 → Branches rule k B W count B′ W′

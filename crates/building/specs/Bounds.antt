@@ -51,16 +51,21 @@ ruleSplits = 3 ^ mostPlaces
 abbrev pub ruleRecords : ℕ
 ruleRecords = splitRecords * ruleSplits
 
--- the records of a batch: 648. Another rule is begun only while it has at most those of one rule. The root's slots, united at the end,
+-- the records that may wait in the batch where another rule is begun. They are few, since the batch is cleared for every build, and enough
+-- for many rules of one batch
+abbrev pub waitingRecords : ℕ
+waitingRecords = 64
+
+-- the records of a batch: 388. Another rule is begun only while so few wait, and then its own fit. The root's slots, united at the end,
 -- make fewer: at most one record a state
 abbrev pub batchRecords : ℕ
-batchRecords = 2 * ruleRecords
+batchRecords = waitingRecords + ruleRecords
 
--- the numbers of a batch: 3,240
+-- the numbers of a batch: 1,940
 abbrev pub batchNumbers : ℕ
 batchNumbers = recordNumbers * batchRecords
 
--- the records that are numbered: 60,648. The table keeps within the paper's limit, but that the batch goes past it is seen only at the
+-- the records that are numbered: 60,388. The table keeps within the paper's limit, but that the batch goes past it is seen only at the
 -- end of a turn. All the same the number of every record fits its field, and that of its set, two more, fits its slot
 abbrev pub numbered : ℕ
 numbered = mostRecords + batchRecords

@@ -14,14 +14,14 @@ pub(crate) fn finish(t: State, work: &mut [u64]) -> Built
     requires { ⌜ Ended t (now work) ⌝ }
     ensures { λ r. ⌜ Finishes t (now (work .entry)) r (now (work .exit)) ⌝ }
 {
-    clear(&mut *work, 0, t.asked);
+    clear(&mut *work, 0, t.asked as usize);
     if t.over {
         return Built::Refused(Refusal::ShortTable);
     }
     // No place is fixed yet: all are open.
     let open_places = flags(t.arity) - 1;
-    // At most 60,000 records are used: their number and that of the set fit 16 bits.
-    let set = set_of(t.set as u16);
+    // At most 60,000 records are used: their number fits 16 bits.
+    let set = set_of(t.set);
     Built::Set(Head {
         nodes: t.nodes as u16,
         arity: t.arity as u16,

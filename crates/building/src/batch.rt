@@ -4,8 +4,8 @@
 // First the limits of a batch and what its numbers mean; then a record put into it; then the paper's three
 // ways to make a set, each of which makes at most one record.
 //
-// The table has `used` records, at most 60,000, and the batch k more, at most 648, which are numbered on.
-// So the number of a record is at most 60,647 and fits its field; that of its set, two more, fits a slot.
+// The table has `used` records, at most 60,000, and the batch k more, at most 388, which are numbered on.
+// So the number of a record is at most 60,387 and fits its field; that of its set, two more, fits a slot.
 ghost use mathlib.Core.List.{[], _∷_, _++_};
 ghost use mathlib.Core.Path.{_≡_};
 ghost use Prim.Native.Nat.{_+_, _*_, _≤_, _<_};
@@ -30,11 +30,14 @@ const SPLIT_RECORDS: usize = 4;
 const RULE_SPLITS: usize = 81;
 
 // So one rule makes at most 324 records. (A leaf rule makes one, or none.)
-pub(crate) const RULE_RECORDS: usize = SPLIT_RECORDS * RULE_SPLITS;
+const RULE_RECORDS: usize = SPLIT_RECORDS * RULE_SPLITS;
 
-// Room for two rules, 648 records: another rule is begun only while the batch has at most the records of
-// one, and then its own fit, however many they are.
-const BATCH_RECORDS: usize = 2 * RULE_RECORDS;
+// Another rule is begun only while at most so many records wait in the batch, and then its own fit, however
+// many they are. So few, since a local array is cleared where it is made, and a build of a small tree would
+// feel a large one; so many, that many rules share one store.
+pub(crate) const WAITING_RECORDS: usize = 64;
+
+const BATCH_RECORDS: usize = WAITING_RECORDS + RULE_RECORDS;
 
 pub(crate) const BATCH_NUMBERS: usize = RECORD_NUMBERS * BATCH_RECORDS;
 

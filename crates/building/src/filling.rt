@@ -2,9 +2,9 @@
 // turns until the batch has no room for the records of another rule.
 ghost use Prim.Native.Nat.{_≤_};
 ghost use lib.ListN.{length};
-ghost use Rattle.building.specs.Bounds.{batchNumbers, ruleRecords};
+ghost use Rattle.building.specs.Bounds.{batchNumbers, waitingRecords};
 ghost use Rattle.building.specs.Standing.{IsStanding, IsFilling, Fills, Turned};
-use crate::batch::RULE_RECORDS;
+use crate::batch::WAITING_RECORDS;
 use crate::node::branch_rules;
 use crate::node::leaf_rules;
 use crate::node::next_node;
@@ -16,7 +16,7 @@ use paper::kinds::LEAF;
 // no node is left. A turn does one of these and no more: all four keep one contract, which the loop needs.
 fn turn(t: State, input: &[u8], work: &mut [u64], batch: &mut [u16]) -> State
     requires { ⌜ IsFilling (now input) t (now work) (now batch) ⌝ }
-    requires { ⌜ (batchNumbers ≤ length (now batch)) × (t .count ≤ ruleRecords) ⌝ }
+    requires { ⌜ (batchNumbers ≤ length (now batch)) × (t .count ≤ waitingRecords) ⌝ }
     ensures { λ r. ⌜ Turned (now (input .entry)) t (now (work .entry)) (now (batch .entry)) r (now (work .exit)) (now (batch .exit)) ⌝ }
 {
     let at = t.at;
@@ -43,7 +43,7 @@ pub(crate) fn fill(t: State, input: &[u8], work: &mut [u64], batch: &mut [u16]) 
     s.from = t.from + t.count;
     s.count = 0;
     // Each turn passes a rule or a node or is the last, so that the loop ends even where no record is made.
-    while s.going && s.count <= RULE_RECORDS {
+    while s.going && s.count <= WAITING_RECORDS {
         s = turn(s, input, &mut *work, &mut *batch);
     }
     s

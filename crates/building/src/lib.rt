@@ -38,7 +38,7 @@ pub fn build(input: &[u8], work: &mut [u64], table: &mut [Record]) -> Built
         // With 1 to 5 the work and the table are as they were.
         Begun::Refused(why) => Built::Refused(why),
         Begun::Going(s) => {
-            // Local, 6,480 bytes: no memory is asked for, and the caller lends none for it.
+            // Local, 3,880 bytes: no memory is asked for, and the caller lends none for it.
             let mut batch: [u16; BATCH_NUMBERS] = [0; BATCH_NUMBERS];
             let e = drive(&mut *table, input, s, &mut *work, &mut batch);
             let answer = finish(e, &mut *work);

@@ -5,12 +5,12 @@ ghost use mathlib.Core.Path.{_≡_};
 ghost use mathlib.Core.List.{List};
 ghost use Prim.Native.Nat.{ℕ, _+_, _≤_, _<_};
 ghost use lib.ListN.{length, getD};
-ghost use Rattle.building.specs.Bounds.{batchNumbers, ruleRecords};
+ghost use Rattle.building.specs.Bounds.{batchNumbers, waitingRecords};
 ghost use Rattle.building.specs.Branches.{BranchReady, branchOf};
 ghost use Rattle.building.specs.Coming.{Comes, HasCome, Joins};
 ghost use Rattle.building.specs.Kinds.{leafKind};
 ghost use Rattle.building.specs.Standing.{IsStanding, IsFilling, Turned};
-use crate::batch::RULE_RECORDS;
+use crate::batch::WAITING_RECORDS;
 use crate::frame::clear;
 use crate::frame::copy_down;
 use crate::frame::flags;
@@ -36,14 +36,14 @@ use stream::next_rule;
 pub(crate) fn leaf_rules(t: State, input: &[u8], work: &mut [u64], batch: &mut [u16]) -> State
     requires { ⌜ IsFilling (now input) t (now work) (now batch) ⌝ }
     requires { ⌜ (t .rule < length (now input)) × (getD (now input) (t .at) 0 ≡ leafKind) ⌝ }
-    requires { ⌜ (batchNumbers ≤ length (now batch)) × (t .count ≤ ruleRecords) ⌝ }
+    requires { ⌜ (batchNumbers ≤ length (now batch)) × (t .count ≤ waitingRecords) ⌝ }
     ensures { λ r. ⌜ Turned (now (input .entry)) t (now (work .entry)) (now (batch .entry)) r (now (work .exit)) (now (batch .exit)) ⌝ }
 {
     let at = t.at;
     let label = input[at + 1];
     let mut count = t.count;
     let mut rule = t.rule;
-    while rule < input.len() && count <= RULE_RECORDS {
+    while rule < input.len() && count <= WAITING_RECORDS {
         // The slot of this rule is in the node's own frame, the one on top.
         let flag = input[rule + 2] as usize;
         let to = shelf_at(t.arity, t.states, t.top, input[rule + 3] as usize);
@@ -86,14 +86,14 @@ fn branch_at(t: State, input: &[u8], rule: usize) -> Branch
 pub(crate) fn branch_rules(t: State, input: &[u8], work: &mut [u64], batch: &mut [u16]) -> State
     requires { ⌜ IsFilling (now input) t (now work) (now batch) ⌝ }
     requires { ⌜ (t .rule < length (now input)) × (getD (now input) (t .at) 0 ≡ leafKind → ⊥) ⌝ }
-    requires { ⌜ (batchNumbers ≤ length (now batch)) × (t .count ≤ ruleRecords) ⌝ }
+    requires { ⌜ (batchNumbers ≤ length (now batch)) × (t .count ≤ waitingRecords) ⌝ }
     ensures { λ r. ⌜ Turned (now (input .entry)) t (now (work .entry)) (now (batch .entry)) r (now (work .exit)) (now (batch .exit)) ⌝ }
 {
     let at = t.at;
     let label = input[at + 1];
     let mut count = t.count;
     let mut rule = t.rule;
-    while rule < input.len() && count <= RULE_RECORDS {
+    while rule < input.len() && count <= WAITING_RECORDS {
         let here = branch_at(t, input, rule);
         count = branch_rule(&mut *batch, &mut *work, count, here);
         rule = next_rule(
@@ -151,7 +151,7 @@ pub(crate) fn start_node(
 // The end of the present node and the start of the next. No record is made, so the batch is not needed.
 pub(crate) fn next_node(t: State, input: &[u8], work: &mut [u64]) -> State
     requires { ⌜ IsStanding (now input) t (now work) ⌝ }
-    requires { ⌜ (length (now input) ≤ t .rule) × (t .node + 1 < t .nodes) × (t .count ≤ ruleRecords) ⌝ }
+    requires { ⌜ (length (now input) ≤ t .rule) × (t .node + 1 < t .nodes) × (t .count ≤ waitingRecords) ⌝ }
     ensures { λ r. ⌜ ((batch : List ℕ) → Turned (now (input .entry)) t (now (work .entry)) batch r (now (work .exit)) batch) ⌝ }
 {
     let at = t.at;

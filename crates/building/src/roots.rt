@@ -2,7 +2,7 @@
 // in the frame of the present node, which is the root, since no node is left behind it.
 ghost use Prim.Native.Nat.{_+_, _≤_, _<_};
 ghost use lib.ListN.{length};
-ghost use Rattle.building.specs.Bounds.{batchNumbers, ruleRecords};
+ghost use Rattle.building.specs.Bounds.{batchNumbers, waitingRecords};
 ghost use Rattle.building.specs.Roots.{UnitedTo, UnitesNext};
 ghost use Rattle.building.specs.Standing.{IsStanding, IsFilling, Turned};
 use crate::batch::Made;
@@ -25,7 +25,7 @@ fn unite_root(
     made: Made,
     state: usize,
 ) -> Made
-    requires { ⌜ IsStanding (now input) t (now work) × (t .count ≤ ruleRecords) ⌝ }
+    requires { ⌜ IsStanding (now input) t (now work) × (t .count ≤ waitingRecords) ⌝ }
     requires { ⌜ (state < t .states) × (batchNumbers ≤ length (now batch)) ⌝ }
     requires { ⌜ (t .count ≤ made .count) × (made .count ≤ t .count + state) × (made .set ≤ t .from + made .count + 1) ⌝ }
     ensures { λ r. ⌜ UnitesNext (now (input .entry)) t (now (work .entry)) state made (now (batch .entry)) r (now (batch .exit)) ⌝ }
@@ -51,7 +51,7 @@ fn unite_root(
 // batch that has room for another rule has room for these.
 fn unite_roots(t: State, input: &[u8], work: &[u64], batch: &mut [u16]) -> Made
     requires { ⌜ IsStanding (now input) t (now work) ⌝ }
-    requires { ⌜ (batchNumbers ≤ length (now batch)) × (t .count ≤ ruleRecords) ⌝ }
+    requires { ⌜ (batchNumbers ≤ length (now batch)) × (t .count ≤ waitingRecords) ⌝ }
     ensures { λ r. ⌜ UnitedTo (now (input .entry)) t (now (work .entry)) (t .states) (now (batch .entry)) r (now (batch .exit)) ⌝ }
 {
     let mut made = Made {
@@ -70,12 +70,12 @@ fn unite_roots(t: State, input: &[u8], work: &[u64], batch: &mut [u16]) -> Made
 pub(crate) fn roots(t: State, input: &[u8], work: &[u64], batch: &mut [u16]) -> State
     requires { ⌜ IsFilling (now input) t (now work) (now batch) ⌝ }
     requires { ⌜ (length (now input) ≤ t .rule) × (t .nodes ≤ t .node + 1) ⌝ }
-    requires { ⌜ (batchNumbers ≤ length (now batch)) × (t .count ≤ ruleRecords) ⌝ }
+    requires { ⌜ (batchNumbers ≤ length (now batch)) × (t .count ≤ waitingRecords) ⌝ }
     ensures { λ r. ⌜ Turned (now (input .entry)) t (now (work .entry)) (now (batch .entry)) r (now (work .entry)) (now (batch .exit)) ⌝ }
 {
     let made = unite_roots(t, input, work, &mut *batch);
     let mut last = count_records(t, made.count, t.rule);
     last.going = false;
-    last.set = made.set;
+    last.set = made.set as u16;
     last
 }

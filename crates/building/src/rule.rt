@@ -7,7 +7,7 @@ ghost use lib.Bits.{bitAnd};
 ghost use lib.ListN.{length};
 ghost use Rattle.paper.specs.Building.{triple, recordSets};
 ghost use Rattle.building.specs.Batch.{setIn, Makes, RoomFor};
-ghost use Rattle.building.specs.Bounds.{batchRecords, fieldNumbers, mostFlags, ruleRecords, splitRecords, tripleRecords};
+ghost use Rattle.building.specs.Bounds.{batchRecords, fieldNumbers, mostFlags, waitingRecords, splitRecords, tripleRecords};
 ghost use Rattle.building.specs.Rules.{splitAt, flagsAt, Unites, Leaves, Branches, Room, Runs};
 ghost use Rattle.building.specs.Slots.{slotAt};
 use crate::batch::Made;
@@ -147,12 +147,17 @@ fn beside(batch: &mut [u16], work: &mut [u64], k: usize, rule: Branch, b1: usize
 
 // A branch rule that matches: its splits, for each b1 ascending that shares no bit with the own flag and
 // then for each such b2. The marks of the left shelf are taken likewise, and the loop ends likewise. All
-// splits together make at most RULE_RECORDS: with no more than these in the batch there is room for them.
+// splits together make at most RULE_RECORDS: with no more than WAITING_RECORDS in the batch there is room for them.
 pub(crate) fn branch_rule(batch: &mut [u16], work: &mut [u64], k: usize, rule: Branch) -> usize
-    requires { ⌜ Room rule k (now batch) (now work) × (k ≤ ruleRecords) ⌝ }
+    requires { ⌜ Room rule k (now batch) (now work) × (k ≤ waitingRecords) ⌝ }
     ensures { λ r. ⌜ Branches rule k (now (batch .entry)) (now (work .entry)) r (now (batch .exit)) (now (work .exit)) ⌝ }
 {
     let left = rule.left;
+    let right = rule.right;
+    // Many rules have nothing on one side: they are passed over here, by one look at each of the two shelves.
+    if work[right] / SETS == 0 {
+        return k;
+    }
     let mut count = k;
     let mut marks = work[left] / SETS;
     while marks != 0 {

@@ -8,7 +8,7 @@ ghost use Rattle.building.specs.Bounds.{mostFlags, slotSets};
 ghost use Rattle.building.specs.Slots.{Puts};
 
 // How many numbers a set has room for, 16 bits: a slot's number % SETS is its set, that of a shelf's
-// first slot / SETS are the shelf's marks. The sets that are made have numbers up to 60,649 (batch.rt).
+// first slot / SETS are the shelf's marks. The sets that are made have numbers up to 60,389 (batch.rt).
 pub(crate) const SETS: u64 = 65536;
 
 // A set put into the slot of a flag of a shelf, and the flag marked. No mark is ever taken back: a slot

@@ -6,10 +6,13 @@ ghost use Rattle.building.specs.States.{counted};
 
 // `from` is where the batch goes in the table, `count` how many records it has. `node` is the
 // number of the present node, `at` where its record stands, `top` how many frames are below its own,
-// `rule` where its next matching rule stands: the end of the input where none is left. `going` is that
-// the building has not stopped, `set` the set that was made, once it has, `over` that it stopped at the
-// limit. The others stay: the nodes, where the rules begin, the query's arity and states, the records that
-// fit, the work asked for.
+// `rule` where its next matching rule stands: the end of the input where none is left. The next six stay:
+// the nodes, where the rules begin, the query's arity and states, the records that fit, the work asked
+// for. `set` is the set that was made, once the building has stopped; `going` is that it has not, `over`
+// that it stopped at the limit.
+// The last four fill one word, so that the struct has no gap: a gap is copied from stack to stack with
+// every turn (docs/PERFORMANCE.md). The work asked for is at most 4,096 frames of 256 numbers, and the
+// number of a set at most 60,389: they fit.
 pub(crate) struct State {
     pub(crate) from: usize,
     pub(crate) count: usize,
@@ -17,13 +20,13 @@ pub(crate) struct State {
     pub(crate) node: usize,
     pub(crate) top: usize,
     pub(crate) rule: usize,
-    pub(crate) set: u64,
     pub(crate) nodes: usize,
     pub(crate) rules: usize,
     pub(crate) arity: usize,
     pub(crate) states: usize,
     pub(crate) limit: usize,
-    pub(crate) asked: usize,
+    pub(crate) asked: u32,
+    pub(crate) set: u16,
     pub(crate) going: bool,
     pub(crate) over: bool,
 }

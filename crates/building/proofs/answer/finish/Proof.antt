@@ -6,10 +6,13 @@ use Rattle.building.proofs.answer.finish.Statement.{statement}
 use Rattle.building.proofs.answer.finish.Tie as tie
 
 -- what is known where the building has not stopped at the limit
-small : (c : tie.Else1) → HeadFits (c .before .before .before .before .before .before .args .t)
+small : (c : tie.Else1) → HeadFits (c .before .before .before .before .before .before .before .args .t)
 small c =
-    let start = c .before .before .before .before .before .before in
+    let start = c .before .before .before .before .before .before .before in
     head-fits (start .pre .0) (start .args .t) (start .pre .1) (start .pre .2) (c .if1 .left)
+
+cast-clear : tie.Need-cast-clear
+cast-clear c = search needs
 
 clear-requires : tie.Need-clear-requires
 clear-requires c κs = search needs
@@ -20,7 +23,7 @@ same-length c = search needs
 returns : tie.Need-returns
 returns c input first entries all s limit long rest =
     let done = c .before .before .before in
-    let start = done .before .before .before in
+    let start = done .before .before .before .before in
     let a = start .args in
     finished-refused input (a .t) all s first entries limit (omega (arith, start .pre .3, long)) (a .work .now) _ rest (done .clear .ensures)
     (c .if1 .taken)
@@ -31,26 +34,23 @@ flags-requires c κs = small c .arity
 sub-open-places : tie.Need-sub-open-places
 sub-open-places c = omega (arith, c .flags .ensures, small (c .before))
 
-cast-set-of : tie.Need-cast-set-of
-cast-set-of c = omega (arith, small (c .before .before) .set)
-
 set-of-requires : tie.Need-set-of-requires
 set-of-requires c κs = tt
 
 cast-t11 : tie.Need-cast-t11
-cast-t11 c = omega (arith, small (c .before .before .before .before))
+cast-t11 c = omega (arith, small (c .before .before .before))
 
 cast-t12 : tie.Need-cast-t12
-cast-t12 c = omega (arith, small (c .before .before .before .before .before))
+cast-t12 c = omega (arith, small (c .before .before .before .before))
 
 cast-t13 : tie.Need-cast-t13
-cast-t13 c = omega (arith, c .before .before .before .before .flags .ensures, small (c .before .before .before .before .before))
+cast-t13 c = omega (arith, c .before .before .before .flags .ensures, small (c .before .before .before .before))
 
-add-t10 : tie.Need-add-t10
-add-t10 c = omega (arith, small (c .before .before .before .before .before .before))
+add-t8 : tie.Need-add-t8
+add-t8 c = omega (arith, small (c .before .before .before .before .before))
 
 cast-t14 : tie.Need-cast-t14
-cast-t14 c = omega (arith, small (c .before .before .before .before .before .before))
+cast-t14 c = omega (arith, small (c .before .before .before .before .before))
 
 same-length-2 : tie.Need-same-length-2
 same-length-2 c = search needs
@@ -58,10 +58,10 @@ same-length-2 c = search needs
 returns-2 : tie.Need-returns-2
 returns-2 c input first entries all s limit long rest =
     let number = c .before .before .before in
-    let places = number .before .before in
+    let places = number .before in
     let branch = places .before in
     let done = branch .before .before .before in
-    let start = done .before .before .before in
+    let start = done .before .before .before .before in
     let a = start .args in
     finished-answer input (a .t) all s first entries limit (omega (arith, start .pre .3, long)) (a .work .now) _ rest (done .clear .ensures)
     (branch .if1 .left) (places .flags .ensures) (number .set-of .ensures)
@@ -70,17 +70,17 @@ pub finish-spec : {M : Type 1} → statement M
 finish-spec =
     tie.close
     (tie.spec
+    cast-clear
     clear-requires
     same-length
     returns
     flags-requires
     sub-open-places
-    cast-set-of
     set-of-requires
     cast-t11
     cast-t12
     cast-t13
-    add-t10
+    add-t8
     cast-t14
     same-length-2
     returns-2)

@@ -8,7 +8,7 @@ use native.Mathlib.Omega.{arith}
 use borrow.Author.Tests.{leb-false, leb-true}
 use lib.ListN.{length}
 use Rattle.building.specs.Batch.{Record}
-use Rattle.building.specs.Bounds.{ruleRecords}
+use Rattle.building.specs.Bounds.{waitingRecords}
 use Rattle.building.specs.Standing.{Filling, Fills, turnsLeft}
 use Rattle.building.specs.States.{emptied}
 use Rattle.building.proofs.TurnLoop.{Filled, emptied-filling, emptied-stepped, filled-ends, filled-filling, filled-onward, filled-starts}
@@ -44,7 +44,7 @@ standing c =
 ended : (c : tie.At-loop Inv-loop μ-loop)
     → let start = c .before .before .before .before .before in
     let a = start .args in
-    ((c .loop .s .going ≡ false) ⊎ (ruleRecords < c .loop .s .count)) → Fills (a .input .now) (a .t) (a .work .now) (c .loop .s) (c .loop .work) (c .loop .batch)
+    ((c .loop .s .going ≡ false) ⊎ (waitingRecords < c .loop .s .count)) → Fills (a .input .now) (a .t) (a .work .now) (c .loop .s) (c .loop .work) (c .loop .batch)
 ended c stop made s few =
     let a = c .before .before .before .before .before .args in
     emptied-stepped (a .input .now) (a .t) (a .work .now) (a .batch .now) made s
@@ -65,7 +65,7 @@ turn-requires : tie.Need-turn-requires Inv-loop μ-loop
 turn-requires c κs =
     let t = c .before .before in
     let start = t .before .before .before .before .before .before .before .before in
-    ((_, standing t), (omega (arith, start .pre .1, t .before .before .before .loop .inv .0), leb-true _ ruleRecords (t .if1 .taken)))
+    ((_, standing t), (omega (arith, start .pre .1, t .before .before .before .loop .inv .0), leb-true _ waitingRecords (t .if1 .taken)))
 
 loop-less : tie.Need-loop-less Inv-loop μ-loop
 loop-less c =
@@ -91,7 +91,7 @@ same-length-2 : tie.Need-same-length-2 Inv-loop μ-loop
 same-length-2 c = c .before .before .before .loop .inv .0
 
 returns : tie.Need-returns Inv-loop μ-loop
-returns c = ended (c .before .before .before) (inr (leb-false _ ruleRecords (c .if1 .left)))
+returns c = ended (c .before .before .before) (inr (leb-false _ waitingRecords (c .if1 .left)))
 
 same-length-3 : tie.Need-same-length-3 Inv-loop μ-loop
 same-length-3 c = c .before .loop .inv .1

@@ -1,7 +1,8 @@
 -- `roots::roots` stops the building with the set of the root.
 use mathlib.Core.Path.{refl}
+use native.Mathlib.Omega.{arith}
 use borrow.Author.Needs.{needs}
-use Rattle.building.proofs.Stopping.{roots-stepped}
+use Rattle.building.proofs.Stopping.{roots-stepped, set-fits}
 use Rattle.building.proofs.roots.roots.Statement.{statement}
 use Rattle.building.proofs.roots.roots.Tie as tie
 
@@ -14,16 +15,27 @@ unite-roots-requires c κs =
 count-records-requires : tie.Need-count-records-requires
 count-records-requires c κs = search needs
 
+cast-last : tie.Need-cast-last
+cast-last c =
+    let united = c .before .before .before .before in
+    let start = united .before .before .before .before .before in
+    let a = start .args in
+    omega (
+      arith,
+      set-fits (a .input .now) (a .t) (a .work .now) (a .batch .now) (start .pre .0 .0) (start .pre .0 .1) (start .pre .1 .1 .1) (start .pre .1 .0 .0)
+          (start .pre .1 .0 .1) (united .unite-roots .result) (united .unite-roots .last .1 .1 .1 .0) (united .unite-roots .ensures),
+    )
+
 same-length : tie.Need-same-length
 same-length c = search needs
 
 returns : tie.Need-returns
 returns c base f =
-    let united = c .before .before .before in
+    let united = c .before .before .before .before in
     let start = united .before .before .before .before .before in
     let a = start .args in
     roots-stepped (a .input .now) (a .t) (a .work .now) (a .batch .now) base f (start .pre .1 .1 .1) (start .pre .1 .0 .0) (start .pre .1 .0 .1)
-    (united .unite-roots .result) (united .unite-roots .last .1 .1 .1 .0) (united .unite-roots .ensures) (c .count-records .ensures) refl
+    (united .unite-roots .result) (united .unite-roots .last .1 .1 .1 .0) (united .unite-roots .ensures) (c .before .count-records .ensures) refl
 
 pub roots-spec : {M : Type 1} → statement M
-roots-spec = tie.close (tie.spec unite-roots-requires count-records-requires same-length returns)
+roots-spec = tie.close (tie.spec unite-roots-requires count-records-requires cast-last same-length returns)

@@ -1,4 +1,5 @@
--- `rule::branch_rule` runs all splits of a branch rule. The loop's invariant: the left flags before the marks that are left are done.
+-- `rule::branch_rule` runs all splits of a branch rule. A rule with no mark on the right makes
+-- nothing. The loop's invariant: the left flags before the marks that are left are done.
 use mathlib.Core.List.{List}
 use mathlib.Core.Logic.{⊎-elim}
 use mathlib.Core.Path.{_∙_, _≡_, subst₃, sym}
@@ -9,19 +10,19 @@ use lib.ListN.{length}
 use Rattle.paper.specs.Lists.{each, upTo}
 use Rattle.building.specs.Rules.{Runs, flagsAt}
 use Rattle.building.proofs.Marks.{fewer-marks, firstMark}
-use Rattle.building.proofs.Turns.{LeftLoop, LeftTurn, beside-few, beside-room, left-ends, left-onward, left-starts, left-turn, some-flag, with-left}
-use Rattle.building.proofs.Turns.{without-left}
+use Rattle.building.proofs.Turns.{LeftLoop, LeftTurn, beside-few, beside-room, left-ends, left-onward, left-starts, left-turn, right-none}
+use Rattle.building.proofs.Turns.{some-flag, with-left, without-left}
 use Rattle.building.proofs.rule.branch_rule.Statement.{statement}
 use Rattle.building.proofs.rule.branch_rule.Tie as tie
 
 abbrev Inv-loop : tie.InvT-loop
-Inv-loop batch₀ work₀ k rule left count₀ marks₀ batch work count marks = LeftLoop rule k batch₀ work₀ marks count batch work
+Inv-loop batch₀ work₀ k rule left right count₀ marks₀ batch work count marks = LeftLoop rule k batch₀ work₀ marks count batch work
 
 abbrev μ-loop : tie.MeasureT-loop
-μ-loop batch₀ work₀ k rule left count₀ marks₀ batch work count marks = marks
+μ-loop batch₀ work₀ k rule left right count₀ marks₀ batch work count marks = marks
 
 abbrev start : tie.In-loop Inv-loop μ-loop → tie.Start Inv-loop μ-loop
-start c = c .before .before .before .before .before
+start c = c .before .before .before .before .before .before .before
 
 -- the flag at hand
 abbrev flag : tie.In-loop Inv-loop μ-loop → ℕ
@@ -41,19 +42,33 @@ Next c batch work count =
     (length batch ≡ length (a .batch .now)) × (length work ≡ length (a .work .now))
     × Runs (each (upTo (flag c + 1)) (flagsAt (a .rule .own) (a .rule .size))) (a .rule) (a .k) (a .batch .now) (a .work .now) count batch work
 
+mul-if1 : tie.Need-mul-if1 Inv-loop μ-loop
+mul-if1 c =
+    let begin = c .before .before in
+    let r = begin .pre .0 in
+    omega (arith, r .right-before, r .within, begin .good)
+
+slice-read-if1 : tie.Need-slice-read-if1 Inv-loop μ-loop
+slice-read-if1 c =
+    let r = c .before .before .before .pre .0 in
+    omega (arith, r .right-before, r .within, some-flag _ (r .flags))
+
+returns : tie.Need-returns Inv-loop μ-loop
+returns c = right-none (c .before .before .before .before .pre .0) (c .if1 .taken)
+
 mul-marks : tie.Need-mul-marks Inv-loop μ-loop
 mul-marks c =
-    let begin = c .before .before in
+    let begin = c .before .before .before .before in
     let r = begin .pre .0 in
     omega (arith, r .left-before, r .within, begin .good)
 
 slice-read-marks : tie.Need-slice-read-marks Inv-loop μ-loop
 slice-read-marks c =
-    let r = c .before .before .before .pre .0 in
+    let r = c .before .before .before .before .before .pre .0 in
     omega (arith, r .left-before, r .within, some-flag _ (r .flags))
 
 loop-holds : tie.Need-loop-holds Inv-loop μ-loop
-loop-holds c = left-starts (c .before .before .before .pre .0)
+loop-holds c = left-starts (c .before .before .before .before .before .pre .0)
 
 cast-b1 : tie.Need-cast-b1 Inv-loop μ-loop
 cast-b1 c = omega (arith, trailing-le 64 (c .before .loop .marks))
@@ -63,7 +78,7 @@ beside-requires c κs =
     let there = c .before .before in
     let t = there .before .before in
     let s = turn t in
-    (beside-room s, ((s .left-flag, there .if1 .taken), beside-few s ((start t) .pre .1)))
+    (beside-room s, ((s .left-flag, there .if2 .taken), beside-few s ((start t) .pre .1)))
 
 sub-marks : tie.Need-sub-marks Inv-loop μ-loop
 sub-marks c = omega (arith, c .before .before .loop-test .taken)
@@ -80,7 +95,7 @@ loop-again c =
     (λ w. subst₃ (Next t) (sym (w .8)) (sym (w .9)) (sym (w .10))
     (w .3 .kept .0 ∙ s .batch-kept, w .3 .kept .1 .0 ∙ s .work-kept, with-left s _ _ _ (w .3 .ensures)))
     (λ w. subst₃ (Next t) (sym (w .1)) (sym (w .2)) (sym (w .3)) (s .batch-kept, s .work-kept, without-left s (w .0 .left)))
-    (c .if1 .came) in
+    (c .if2 .came) in
     left-onward ((start t) .pre .0) (t .before .loop .inv) (t .loop-test .taken) (next .0) (next .1) (next .2)
 
 same-length : tie.Need-same-length Inv-loop μ-loop
@@ -89,8 +104,8 @@ same-length c = c .before .loop .inv .batch-kept
 same-length-2 : tie.Need-same-length-2 Inv-loop μ-loop
 same-length-2 c = c .before .loop .inv .work-kept
 
-returns : tie.Need-returns Inv-loop μ-loop
-returns c = left-ends (c .before .before .before .before .before .pre .0) (c .before .loop .inv) (c .loop-test .left)
+returns-2 : tie.Need-returns-2 Inv-loop μ-loop
+returns-2 c = left-ends (c .before .before .before .before .before .before .before .pre .0) (c .before .loop .inv) (c .loop-test .left)
 
 pub branch-rule-spec : {M : Type 1} → statement M
 branch-rule-spec =
@@ -98,6 +113,9 @@ branch-rule-spec =
     (tie.spec
     Inv-loop
     μ-loop
+    mul-if1
+    slice-read-if1
+    returns
     mul-marks
     slice-read-marks
     loop-holds
@@ -108,4 +126,4 @@ branch-rule-spec =
     loop-again
     same-length
     same-length-2
-    returns)
+    returns-2)

@@ -38,6 +38,15 @@ returns c =
 record-limit-requires : tie.Need-record-limit-requires
 record-limit-requires c κs = search needs
 
+cast-t12 : tie.Need-cast-t12
+cast-t12 c =
+    let wide = c .before .before in
+    let start = wide .before .before .before .before in
+    omega (arith, asked-fits (start .args .input .now) (start .args .tree) (start .args .query) (facts start) (wide .frame-width .ensures))
+
+cast-t13 : tie.Need-cast-t13
+cast-t13 c = search needs
+
 start-node-requires : tie.Need-start-node-requires
 start-node-requires c κs =
     let wide = c .before .before .before in
@@ -74,6 +83,8 @@ start-spec =
     mul-asked
     returns
     record-limit-requires
+    cast-t12
+    cast-t13
     start-node-requires
     same-length
     returns-2)
