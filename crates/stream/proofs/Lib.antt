@@ -6,6 +6,9 @@ pub mod TreeSteps
 pub mod TreeReading
 pub mod SaidAgain
 pub mod RuleSearch
+pub mod Symbols
+pub mod Linking
+pub mod Told
 pub mod InRange
 pub mod QuerySteps
 pub mod QueryHead

@@ -1,3 +1,4 @@
 pub mod Positions
 pub mod Reading
 pub mod OneRecord
+pub mod RuleLists

@@ -4,6 +4,7 @@
 mod fits; // whether a record behind the query's head is whole and in range
 mod head; // the query's head
 mod lengths; // the length of a body, by its kind
+mod lists; // the rules of each symbol, listed
 mod query; // the records behind the head, and all of the query
 mod record; // one record: its kind, and the bytes that it begins with
 mod rules; // the rules of a symbol
@@ -14,6 +15,10 @@ mod tree; // the tree
 pub use head::QueryFacts;
 pub use head::QueryRead;
 pub use lengths::body_length;
+pub use lists::LIST_NUMBERS;
+pub use lists::first_rule;
+pub use lists::list_rules;
+pub use lists::rule_after;
 pub use query::read_query;
 pub use rules::next_rule;
 pub use said::is_accepting;

@@ -1,0 +1,145 @@
+-- `lists::list_rules` meets its contract: the lists are linked up to the position.
+use mathlib.Core.List.{List}
+use mathlib.Core.Logic.{⊎-elim}
+use mathlib.Core.Path.{_∙_, _≡_, ap, refl, subst, sym}
+use Prim.Native.Nat.{_+_, _-_, _<_, _≤_, ℕ}
+use native.Mathlib.Omega.{arith}
+use borrow.Author.Needs.{needs}
+use lib.ListN.{getD, length, length-set}
+use Rattle.stream.proofs.LengthTable.{short}
+use Rattle.stream.specs.RuleLists.{Room}
+use Rattle.stream.proofs.Linking.{Going, cell-room, goes-on, goes-past, last-low, linked-all, linked-none}
+use Rattle.stream.proofs.lists.list_rules.Statement.{statement}
+use Rattle.stream.proofs.lists.list_rules.Tie as tie
+
+abbrev Inv-loop : tie.InvT-loop
+Inv-loop input from lists₀ last₀ end at₀ lists last at = Going input from (length lists₀) at lists last
+
+abbrev μ-loop : tie.MeasureT-loop
+μ-loop input from lists₀ last₀ end at₀ lists last at = length input - at
+
+-- what is known at the loop
+module _ (l : tie.At-loop Inv-loop μ-loop) where
+  abbrev start : tie.Start Inv-loop μ-loop
+  start = l .before .before .before .before .before .before .before .before .before
+
+  abbrev input : List ℕ
+  input = start .args .input .now
+
+  pre : length input < 65536
+  pre = start .pre .0
+
+  room : Room input (start .args .from) (length (l .before .before .before .before .start-lists .last .0))
+  room = let e = l .before .before .before .before .start-lists .ensures .0 .0 in
+      (omega (arith, e, start .pre .1), omega (arith, e, start .pre .1))
+
+cast-end : tie.Need-cast-end Inv-loop μ-loop
+cast-end c = search needs
+
+slice-aggregate-start-lists : tie.Need-slice-aggregate-start-lists Inv-loop μ-loop
+slice-aggregate-start-lists c = search needs
+
+start-lists-requires : tie.Need-start-lists-requires Inv-loop μ-loop
+start-lists-requires c κs = search needs
+
+loop-holds : tie.Need-loop-holds Inv-loop μ-loop
+loop-holds c =
+    let k = c .before .before .before .start-lists in
+    record {
+      behind = omega arith;
+      sized = refl;
+      long = k .ensures .0 .1;
+      linked = linked-none _ _ _ _ (k .ensures .1);
+    }
+
+symbol-at-requires : tie.Need-symbol-at-requires Inv-loop μ-loop
+symbol-at-requires c κs = search needs
+
+sub-cell : tie.Need-sub-cell Inv-loop μ-loop
+sub-cell c = search needs
+
+add-cell : tie.Need-add-cell Inv-loop μ-loop
+add-cell c = search needs
+
+slice-aggregate-add-rule : tie.Need-slice-aggregate-add-rule Inv-loop μ-loop
+slice-aggregate-add-rule c = search needs
+
+cast-add-rule : tie.Need-cast-add-rule Inv-loop μ-loop
+cast-add-rule c = search needs
+
+add-rule-requires : tie.Need-add-rule-requires Inv-loop μ-loop
+add-rule-requires c κs =
+    let p = c .before .before in
+    let l = p .before .before .before in (
+      (
+        omega (arith, p .if1 .taken, l .loop .inv .long),
+        omega (
+          arith,
+          last-low _ _ _ _ _ (l .loop .inv .linked) (p .before .before .loop-test .taken) (p .before .symbol-at .result) (p .if1 .taken),
+          cell-room _ _ _ _ _ _ (l .loop .inv) (p .before .before .loop-test .taken) (room l),
+        ),
+      ),
+      (cell-room _ _ _ _ _ _ (l .loop .inv) (p .before .before .loop-test .taken) (room l), omega (arith, pre l)),
+    )
+
+add-at : tie.Need-add-at Inv-loop μ-loop
+add-at c = search needs
+
+shared-slice-read-body-length : tie.Need-shared-slice-read-body-length Inv-loop μ-loop
+shared-slice-read-body-length c = search needs
+
+body-length-requires : tie.Need-body-length-requires Inv-loop μ-loop
+body-length-requires c κs = search needs
+
+add-at-2 : tie.Need-add-at-2 Inv-loop μ-loop
+add-at-2 c =
+    let k = c .before .before .before .before in
+    omega (arith, k .loop-test .taken, c .body-length .ensures, short (getD (input (k .before)) (k .before .loop .at) 0))
+
+loop-less : tie.Need-loop-less Inv-loop μ-loop
+loop-less c = search needs
+
+loop-again : tie.Need-loop-again Inv-loop μ-loop
+loop-again c =
+    let j = c .before .before in
+    let k = c .before .before .before .before in
+    let l = k .before in
+    let past = ap (λ n. l .loop .at + 1 + n) (c .body-length .ensures) in
+    ⊎-elim
+    (λ w.
+    goes-on _ _ _ _ _ _ (l .loop .inv) (k .loop-test .taken) _ _ (j .before .symbol-at .ensures) past (room l) (w .0 .taken) _ _
+    (w .7 ∙ w .3 .ensures .0) (w .8 ∙ w .3 .ensures .1))
+    (λ w.
+    rw (w .1, w .2) (goes-past _ _ _ _ _ _ (l .loop .inv) (k .loop-test .taken) _ _ (j .before .symbol-at .ensures) past (w .0 .left)))
+    (j .if1 .came)
+
+same-length : tie.Need-same-length Inv-loop μ-loop
+same-length c = search needs
+
+returns : tie.Need-returns Inv-loop μ-loop
+returns c = linked-all _ _ _ _ _ (c .before .loop .inv .linked) (c .loop-test .left)
+
+pub list-rules-spec : {M : Type 1} → statement M
+list-rules-spec =
+    tie.close
+    (tie.spec
+    Inv-loop
+    μ-loop
+    cast-end
+    slice-aggregate-start-lists
+    start-lists-requires
+    loop-holds
+    symbol-at-requires
+    sub-cell
+    add-cell
+    slice-aggregate-add-rule
+    cast-add-rule
+    add-rule-requires
+    add-at
+    shared-slice-read-body-length
+    body-length-requires
+    add-at-2
+    loop-less
+    loop-again
+    same-length
+    returns)

@@ -1,0 +1,138 @@
+// Lists of a query's rules by symbol, made once, so that a node finds the rules of its symbol without
+// passing over the others. First the symbol of a record, then the making of the lists, then their
+// readers. What the lists say stands in specs/RuleLists.antt.
+ghost use mathlib.Core.Path.{_≡_};
+ghost use Prim.Native.Nat.{ℕ, _+_, _*_, _-_, _≤_, _<_};
+ghost use lib.ListN.{length, getD, set};
+ghost use Rattle.laws.specs.StreamCauses.{RuleKind};
+ghost use Rattle.stream.specs.RuleLists.{symbols, symbol, SymbolAt, firstCell, Room, RuleLists, TellsFirst, TellsNext};
+use crate::lengths::body_length;
+use crate::record::byte_at;
+use paper::kinds::BRANCH_RULE;
+use paper::kinds::LEAF_RULE;
+use paper::limits::HIGHEST_LABEL;
+use paper::limits::MOST_RULES;
+use paper::limits::MOST_STATES;
+
+// The labels, from 0 on.
+const LABELS: usize = 64;
+
+// A symbol for each label of the leaf rules, then for each of the branch rules.
+const SYMBOLS: usize = 2 * LABELS;
+
+// Behind the symbols' numbers and that of the accepting states the cells of the rules begin.
+const FIRST_CELL: usize = SYMBOLS + 1;
+
+// The length of a leaf rule. No rule is shorter, so no two rules share a cell.
+const SHORTEST_RULE: usize = 4;
+
+// A query that is read has at most so many bytes behind its head: branch rules of six bytes, and
+// accepting states of two, each said once.
+const MOST_BYTES: usize = MOST_RULES * 6 + MOST_STATES * 2;
+
+// So long are lists that have room for the rules of any query that is read.
+pub const LIST_NUMBERS: usize = FIRST_CELL + MOST_BYTES / SHORTEST_RULE;
+
+fn symbol_of(kind: u8, label: u8) -> usize
+    requires { ⌜ RuleKind kind × (label ≤ 63) ⌝ }
+    ensures { λ r. ⌜ r ≡ symbol kind label ⌝ }
+{
+    (kind - LEAF_RULE) as usize * LABELS + label as usize
+}
+
+// The symbol of the rule at a position; `SYMBOLS` where none stands, or one with a label that no node
+// has.
+fn symbol_at(input: &[u8], at: usize) -> usize
+    requires { ⌜ at < length (now input) ⌝ }
+    ensures { λ r. ⌜ SymbolAt (now (input .entry)) at r ⌝ }
+{
+    let kind = input[at];
+    match kind {
+        LEAF_RULE | BRANCH_RULE => {
+            let label = byte_at(input, at + 1);
+            if HIGHEST_LABEL < label {
+                return SYMBOLS;
+            }
+            symbol_of(kind, label)
+        }
+        _ => SYMBOLS,
+    }
+}
+
+// No rule yet: each list ends at once, and its last cell is its first.
+fn start_lists(lists: &mut [u16], last: &mut [u16], end: u16)
+    requires { ⌜ (symbols ≤ length (now lists)) × (length (now last) ≡ symbols) ⌝ }
+    ensures { λ _. ⌜ (length (now (lists .exit)) ≡ length (now (lists .entry))) × (length (now (last .exit)) ≡ symbols) ⌝ }
+    ensures { λ _. ⌜ ((s : ℕ) → s < symbols → (getD (now (lists .exit)) s 0 ≡ end) × (getD (now (last .exit)) s 0 ≡ s)) ⌝ }
+{
+    // Ends with the symbols.
+    let mut s = 0;
+    while s < SYMBOLS {
+        lists[s] = end;
+        last[s] = s as u16;
+        s += 1;
+    }
+}
+
+// One more rule of a symbol: what told the end tells this rule, and the rule's cell tells the end.
+fn add_rule(lists: &mut [u16], last: &mut [u16], symbol: usize, cell: usize, at: u16)
+    requires { ⌜ (symbol < length (now last)) × (getD (now last) symbol 0 < length (now lists)) ⌝ }
+    requires { ⌜ (cell < length (now lists)) × (cell < 65536) ⌝ }
+    ensures { λ _. ⌜ now (lists .exit) ≡ set (set (now (lists .entry)) (getD (now (last .entry)) symbol 0) at) cell
+        (getD (now (lists .entry)) (getD (now (last .entry)) symbol 0) 0) ⌝ }
+    ensures { λ _. ⌜ now (last .exit) ≡ set (now (last .entry)) symbol cell ⌝ }
+{
+    let old = last[symbol] as usize;
+    let end = lists[old];
+    lists[old] = at;
+    lists[cell] = end;
+    last[symbol] = cell as u16;
+}
+
+// The lists of the rules that stand from a position on, in file order: a rule is put behind the last
+// one of its symbol, whose cell is kept in `last`.
+pub fn list_rules(input: &[u8], from: usize, lists: &mut [u16])
+    requires { ⌜ length (now input) < 65536 ⌝ }
+    requires { ⌜ Room (now input) from (length (now lists)) ⌝ }
+    ensures { λ _. ⌜ RuleLists (now (input .entry)) from (now (lists .exit)) ⌝ }
+{
+    let mut last: [u16; SYMBOLS] = [0; SYMBOLS];
+    let end = input.len() as u16;
+    start_lists(&mut *lists, &mut last, end);
+    // Ends with the input: a turn steps over a kind at least.
+    let mut at = from;
+    while at < input.len() {
+        let symbol = symbol_at(input, at);
+        if symbol < SYMBOLS {
+            let cell = FIRST_CELL + (at - from) / SHORTEST_RULE;
+            add_rule(&mut *lists, &mut last, symbol, cell, at as u16);
+        }
+        at = at + 1 + body_length(input[at]);
+    }
+}
+
+// In a function of its own so that the cast is proved once.
+fn wide(x: u16) -> usize
+    ensures { λ r. ⌜ r ≡ x ⌝ }
+{
+    x as usize
+}
+
+// The first rule of a kind and a label, and the end of the input where there is none.
+pub fn first_rule(lists: &[u16], kind: u8, label: u8) -> usize
+    requires { ⌜ RuleKind kind × (label ≤ 63) ⌝ }
+    requires { ⌜ symbols ≤ length (now lists) ⌝ }
+    ensures { λ r. ⌜ TellsFirst (now (lists .entry)) kind label r ⌝ }
+{
+    let symbol = symbol_of(kind, label);
+    wide(lists[symbol])
+}
+
+// The rule behind one, of its kind and label.
+pub fn rule_after(lists: &[u16], from: usize, rule: usize) -> usize
+    requires { ⌜ (from ≤ rule) × (rule < from + 4 * (length (now lists) - firstCell)) ⌝ }
+    ensures { λ r. ⌜ TellsNext (now (lists .entry)) from rule r ⌝ }
+{
+    let cell = FIRST_CELL + (rule - from) / SHORTEST_RULE;
+    wide(lists[cell])
+}
