@@ -6,22 +6,23 @@ use mathlib.Core.Logic.{⊎-elim}
 use mathlib.Core.Path.{_∙_, _≡_, ap, refl, subst, sym}
 use Prim.Native.Nat.{_*_, _+_, _<_, _≤_, suc, zero, ℕ}
 use native.Mathlib.Omega.{arith}
-use borrow.Author.Tests.{eqb-true, ltb-false, ltb-true}
-use lib.Dec.{ltb}
+use borrow.Author.Tests.{eqb-true, leb-true, ltb-false, ltb-true}
+use lib.Dec.{leb, ltb}
 use lib.ListN.{drop, getD, length, length-drop}
 use lib.Seq.{drop-drop}
 use Rattle.paper.specs.Lists.{_∈_}
-use Rattle.paper.specs.Query.{acceptingOf, queryOf, rulesOf}
-use Rattle.paper.specs.Refusals.{answer, atEach, nodesIn, queryEndTests, queryIn, queryPart, queryTests, unless}
-use Rattle.paper.specs.Stream.{StreamRecord, bodyLength, isTreeKind, queryRecords, recordsOf, treeRecords, whole}
-use Rattle.laws.proofs.Lists.{which}
-use Rattle.laws.proofs.Replies.{Passes, answered, passes-left}
+use Rattle.paper.specs.Query.{Query, acceptingOf, queryOf, rulesOf}
+use Rattle.paper.specs.Refusals.{answer, atEach, headTests, laterTests, nodesIn, queryEndTests, queryIn, queryPart, queryTests, unless}
+use Rattle.paper.specs.Stream.{StreamRecord, bodyLength, isTreeKind, number, queryRecords, recordsOf, treeRecords, whole}
+use Rattle.laws.proofs.Lists.{both-true, which}
+use Rattle.laws.proofs.Replies.{Passes, answered, passes-left, passes-right}
 use Rattle.laws.proofs.StreamPlaces.{firstRecord, records-cons, tree-kind}
 use Rattle.stream.specs.OneRecord.{queryWith}
 use Rattle.stream.specs.Positions.{after, recordAt}
 use Rattle.stream.specs.Reading.{QueryFacts, queryFacts, queryReply}
 use Rattle.stream.proofs.EachRecord.{each-passed}
 use Rattle.stream.proofs.Positions.{records-here, records-none}
+use Rattle.stream.proofs.QueryReading.{tests-behind}
 
 -- the records are the query's from two bytes behind each of the tree's on
 BehindTree : List ℕ → List StreamRecord → Type 0
@@ -79,6 +80,15 @@ tells-whole : (before : List StreamRecord) (r : StreamRecord) → Passes (queryT
 tells-whole [] r p = p .1 .0
 tells-whole (x ∷ xs) r p = p .1 .0
 
+-- a kind that stands behind the head
+abbrev Behind : StreamRecord → Type 0
+Behind r = (17 ≤ r .kind) × (r .kind ≤ 19)
+
+tells-behind : (Q : Query) (r : StreamRecord) → Passes (laterTests Q r) → Behind r
+tells-behind Q r p =
+    let both = both-true (leb 17 (r .kind)) (leb (r .kind) 19) (p .0) in
+    (leb-true 17 (r .kind) (both .0), leb-true (r .kind) 19 (both .1))
+
 module _ (input : List ℕ) (at : ℕ) (f : QueryFacts) (e : answer f ≡ queryReply input at) where
   read : Passes (queryPart (recordsOf (drop at input))) × (queryFacts input at ≡ f)
   read = answered (queryPart (recordsOf (drop at input))) (sym e)
@@ -108,6 +118,20 @@ module _ (input : List ℕ) (at : ℕ) (f : QueryFacts) (e : answer f ≡ queryR
   whole-read r m =
       each-passed queryTests (λ x. whole x ≡ true) tells-whole [] _ tests r
       (List·Memᴰ·tail (subst (λ n. r ∈ recordsOf (drop n input)) (sym behind) m))
+
+  -- of kinds that stand there
+  pub kinds-read : (r : StreamRecord) → r ∈ recordsOf (drop (f .rules) input) → Behind r
+  kinds-read r m =
+      each-passed (λ before x. laterTests (queryWith numbers before) x) Behind (λ before x. tells-behind (queryWith numbers before) x) [] _ later r
+      (subst (λ n. r ∈ recordsOf (drop n input)) (sym behind) m)
+    where
+      numbers : QueryFacts
+      numbers = record { arity = number (recordAt input at) 0; states = number (recordAt input at) 1; rules = f .rules }
+
+      later : Passes (atEach (λ before x. laterTests (queryWith numbers before) x) [] (recordsOf (drop (after input at) input)))
+      later =
+          subst Passes (tests-behind numbers (recordAt input at) refl refl [] (recordsOf (drop (after input at) input)))
+          (passes-right (headTests (recordAt input at)) (atEach queryTests (recordAt input at ∷ []) (recordsOf (drop (after input at) input))) tests)
 
   -- and make the query
   pub query-read : queryOf (recordsOf (drop at input)) ≡ queryWith f (recordsOf (drop (f .rules) input))

@@ -14,4 +14,5 @@ pub mod QuerySteps
 pub mod QueryHead
 pub mod QueryReading
 pub mod AfterTree
+pub mod Room
 pub mod OneAnswer

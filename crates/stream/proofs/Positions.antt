@@ -11,7 +11,7 @@ use borrow.Author.Tests.{eq-eqb, eqb-true, ne-eqb}
 use lib.ListN.{drop, drop-of-length-le, getD, length, length-append, length-drop, length-take, take, take-append-drop}
 use lib.Seq.{drop-append-le, drop-cons, drop-at, drop-drop, getD-drop, getD-take, length-slice, length-take-le, slice-empty, take-at}
 use Rattle.paper.specs.Lists.{_∈_}
-use Rattle.paper.specs.Stream.{StreamRecord, bodyLength, number, recordsOf, whole}
+use Rattle.paper.specs.Stream.{StreamRecord, bodyLength, number, recordsOf, recordsWithin, whole}
 use Rattle.laws.specs.StreamCauses.{Begins, written}
 use Rattle.laws.proofs.Lists.{here}
 use Rattle.laws.proofs.StreamPlaces.{place-after, place-here, records-cons}
@@ -66,6 +66,17 @@ module _ (input : List ℕ) (at : ℕ) where
       )
 
 -- ---- written records
+-- the records that bytes make are all of these bytes, in their order
+written-within : (n : ℕ) (bytes : List ℕ) → length bytes ≤ n → written (recordsWithin n bytes) ≡ bytes
+written-within zero [] h = refl
+written-within zero (k ∷ bytes) h = absurd (omega arith)
+written-within (suc n) [] h = refl
+written-within (suc n) (k ∷ bytes) h =
+    rw (written-within n (drop (bodyLength k) bytes) (omega (arith, length-drop (bodyLength k) bytes)), take-append-drop (bodyLength k) bytes) refl
+
+pub written-records : (bytes : List ℕ) → written (recordsOf bytes) ≡ bytes
+written-records bytes = written-within (length bytes) bytes (omega arith)
+
 -- bytes that begin with whole records make these records and then those of the rest
 records-begin : (records : List StreamRecord) (rest : List ℕ) → ((r : StreamRecord) → r ∈ records → length (r .body) ≡ bodyLength (r .kind))
     → recordsOf (written records ++ rest) ≡ records ++ recordsOf rest

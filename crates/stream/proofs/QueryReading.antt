@@ -94,7 +94,7 @@ end-holds [] n a = refl
 end-holds (t ∷ ts) n a = ap (λ z. cond (t .1) z (refused (t .0))) (end-holds ts n a)
 
 -- behind a head with this arity and these states the tests are those behind it
-tests-behind : (f : QueryFacts) (head : StreamRecord) → number head 0 ≡ f .arity → number head 1 ≡ f .states
+pub tests-behind : (f : QueryFacts) (head : StreamRecord) → number head 0 ≡ f .arity → number head 1 ≡ f .states
     → (before records : List StreamRecord) → atEach queryTests (head ∷ before) records ≡ atEach (testsBehind f) before records
 tests-behind f head a b before [] = refl
 tests-behind f head a b before (r ∷ rs) =

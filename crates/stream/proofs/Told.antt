@@ -15,22 +15,11 @@ use Rattle.paper.specs.Stream.{StreamRecord, bodyLength, number, recordsOf, rec
 use Rattle.laws.specs.StreamCauses.{RuleKind, written}
 use Rattle.laws.proofs.Lists.{both-true, here, which}
 use Rattle.stream.specs.Positions.{NextRule, after, isRuleFor, recordAt}
-use Rattle.stream.proofs.Positions.{records-here, records-none}
+use Rattle.stream.proofs.Positions.{records-here, records-none, written-records}
 use Rattle.stream.specs.RuleLists.{RuleLists, TellsFirst, TellsNext, cellOf, chain, isFor, kindFor, labelFor, place, positions, rulesFor, symbol, symbols}
 use Rattle.stream.proofs.Symbols.{its-kind, its-label, place-from, symbol-low}
 
 -- ---- positions that records lead to
--- the records are all bytes, in their order
-written-within : (n : ℕ) (bytes : List ℕ) → length bytes ≤ n → written (recordsWithin n bytes) ≡ bytes
-written-within zero [] h = refl
-written-within zero (k ∷ bytes) h = absurd (omega arith)
-written-within (suc n) [] h = refl
-written-within (suc n) (k ∷ bytes) h =
-    rw (written-within n (drop (bodyLength k) bytes) (omega (arith, length-drop (bodyLength k) bytes)), take-append-drop (bodyLength k) bytes) refl
-
-pub written-records : (bytes : List ℕ) → written (recordsOf bytes) ≡ bytes
-written-records bytes = written-within (length bytes) bytes (omega arith)
-
 -- so the same records from two positions on are from one position on
 one-position : (input : List ℕ) (a b : ℕ) → b < length input → recordsOf (drop a input) ≡ recordsOf (drop b input) → a ≡ b
 one-position input a b h e = omega (arith, ap length same, length-drop a input, length-drop b input)

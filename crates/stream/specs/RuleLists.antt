@@ -53,6 +53,11 @@ cellOf from at = firstCell + (at - from) / 4
 abbrev pub Room : List ℕ → ℕ → ℕ → Type 0
 Room input from size = (firstCell ≤ size) × (length input ≤ from + 4 * (size - firstCell))
 
+-- so long are lists that have room for any query that is read: behind its head it has at most 1,024 rules, of at most six bytes, and 16
+-- accepting states, of two
+abbrev pub listNumbers : ℕ
+listNumbers = firstCell + (1024 * 6 + 16 * 2) / 4
+
 -- ---- what the lists say
 pub record RuleLists (input : List ℕ) (from : ℕ) (lists : List ℕ) : Type 0 where
   pub first : (s : ℕ) → s < symbols → NextRule input from (kindFor s) (labelFor s) (getD lists s 0)
