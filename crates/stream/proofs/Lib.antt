@@ -8,6 +8,7 @@ pub mod SaidAgain
 pub mod RuleSearch
 pub mod Symbols
 pub mod Linking
+pub mod AcceptingBits
 pub mod Told
 pub mod InRange
 pub mod QuerySteps

@@ -8,12 +8,16 @@ use Prim.Native.Nat.{ℕ, zero, suc, _+_, _*_, _-_, _/_, _%_, _≤_, _<_}
 use native.Mathlib.Omega.{arith}
 use borrow.Author.Tests.{eq-eqb, eqb-false, eqb-true, ltb-true, ltb-false, ne-eqb}
 use lib.Dec.{eqb, ltb}
-use lib.ListN.{getD, length, length-set, set}
+use lib.ListN.{drop, getD, length, length-set, set}
 use lib.Seq.{getD-set-other, getD-set-same}
+use Rattle.paper.specs.Lists.{has}
+use Rattle.paper.specs.Query.{acceptingOf}
+use Rattle.paper.specs.Questions.{hasPlace}
+use Rattle.paper.specs.Stream.{recordsOf}
 use Rattle.laws.proofs.Lists.{which}
 use Rattle.stream.specs.Positions.{NextRule, after, recordAt}
 use Rattle.stream.proofs.RuleSearch.{Skipped, all-skipped, none-skipped, one-skipped, rule-found}
-use Rattle.stream.specs.RuleLists.{Room, RuleLists, SymbolAt, cellOf, isFor, kindFor, labelFor, place, symbols}
+use Rattle.stream.specs.RuleLists.{Room, RuleLists, SymbolAt, acceptingCell, cellOf, isFor, kindFor, labelFor, place, symbols}
 use Rattle.stream.proofs.Symbols.{cell-behind, one-symbol, place-up}
 
 -- ---- cells
@@ -233,11 +237,20 @@ module _ (input : List ℕ) (from at : ℕ) (lists last : List ℕ) (k : Linked 
       beyond : k .n ≤ i → ⊥
       beyond g = omega (arith, k .here, place-up input from (k .n) i g)
 
-  pub linked-all : RuleLists input from lists
-  linked-all = record {
-    first = λ s b. told s s from b (head s);
-    next = λ s i b h e. told (cellOf from (place input from i)) s (after input (place input from i)) b (rule s i (passed i h) h e);
-  }
+  -- so the lists are right, once the accepting states are put in
+  module _ (bits : ℕ) (room : acceptingCell < length lists)
+      (right : (q : ℕ) → q < 16 → hasPlace bits q ≡ has (acceptingOf (recordsOf (drop from input))) q) where
+    kept : (c : ℕ) → (c ≡ acceptingCell → ⊥) → getD lists c 0 ≡ getD (set lists acceptingCell bits) c 0
+    kept c n = sym (getD-set-other lists acceptingCell c bits 0 n)
+
+    pub linked-all : RuleLists input from (set lists acceptingCell bits)
+    linked-all = record {
+      first = λ s b. subst (Seeks input from s) (kept s (λ e. omega arith)) (told s s from b (head s));
+      next = λ s i b h e.
+          subst (Seeks input (after input (place input from i)) s) (kept (cellOf from (place input from i)) (λ w. omega arith))
+          (told (cellOf from (place input from i)) s (after input (place input from i)) b (rule s i (passed i h) h e));
+      accepting = λ q h. ap (λ b. hasPlace b q) (getD-set-same lists acceptingCell bits 0 room) ∙ right q h;
+    }
 
 -- ---- the loop: the lists keep their size
 pub record Going (input : List ℕ) (from size at : ℕ) (lists last : List ℕ) : Type 0 where

@@ -1,11 +1,15 @@
 -- Lists of a query's rules by symbol, which is a kind with a label: the position of a symbol's first rule, and for each rule that of the
--- next one of its symbol. First symbols and the positions of records, then where the lists keep their numbers, then what they say.
-use mathlib.Core.Bool.{Bool, cond, true}
+-- next one of its symbol. The accepting states stand with them, a bit each.
+-- First symbols and the positions of records, then where the lists keep their numbers, then what they say.
+use mathlib.Core.Bool.{Bool, _||_, cond, true}
 use mathlib.Core.List.{List, [], _∷_, _++_}
 use mathlib.Core.Path.{_≡_}
 use Prim.Native.Nat.{ℕ, zero, suc, _+_, _*_, _-_, _/_, _%_, _≤_, _<_}
 use lib.Dec.{eqb, ltb}
 use lib.ListN.{length, getD, drop}
+use Rattle.paper.specs.Lists.{has}
+use Rattle.paper.specs.Query.{acceptingOf}
+use Rattle.paper.specs.Questions.{hasPlace}
 use Rattle.paper.specs.Stream.{StreamRecord, recordsOf}
 use Rattle.stream.specs.Positions.{recordAt, after, isRuleFor, NextRule}
 
@@ -63,6 +67,11 @@ pub record RuleLists (input : List ℕ) (from : ℕ) (lists : List ℕ) : Type 0
   pub first : (s : ℕ) → s < symbols → NextRule input from (kindFor s) (labelFor s) (getD lists s 0)
   pub next : (s i : ℕ) → s < symbols → place input from i < length input → isFor s (recordAt input (place input from i)) ≡ true
       → NextRule input (after input (place input from i)) (kindFor s) (labelFor s) (getD lists (cellOf from (place input from i)) 0)
+  pub accepting : (q : ℕ) → q < 16 → hasPlace (getD lists acceptingCell 0) q ≡ has (acceptingOf (recordsOf (drop from input))) q
+
+-- one more record: these states, and its own if it is an accepting one's
+abbrev pub AddsState : List ℕ → ℕ → ℕ → ℕ → Type 0
+AddsState input at old new = (q : ℕ) → q < 16 → hasPlace new q ≡ hasPlace old q || has (acceptingOf (recordAt input at ∷ [])) q
 
 -- ---- what a reader of the lists is told, whatever input they are of
 -- the first rule of a kind and a label
@@ -75,6 +84,10 @@ TellsNext lists from rule r =
     (input : List ℕ) (kind label : ℕ) (passed : List StreamRecord) → RuleLists input from lists → label ≤ 63 → rule < length input
     → recordsOf (drop from input) ≡ passed ++ recordsOf (drop rule input) → isRuleFor kind label (recordAt input rule) ≡ true
     → NextRule input (after input rule) kind label r
+
+-- whether a state is accepting
+abbrev pub TellsAccepting : List ℕ → ℕ → Bool → Type 0
+TellsAccepting lists state r = (input : List ℕ) (from : ℕ) → RuleLists input from lists → r ≡ has (acceptingOf (recordsOf (drop from input))) state
 
 -- ---- all rules of a symbol: the positions that the lists lead to from one on
 abbrev pub chain : ℕ → List ℕ → ℕ → ℕ → ℕ → List ℕ

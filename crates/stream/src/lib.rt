@@ -16,6 +16,7 @@ pub use head::QueryFacts;
 pub use head::QueryRead;
 pub use lengths::body_length;
 pub use lists::LIST_NUMBERS;
+pub use lists::accepts;
 pub use lists::first_rule;
 pub use lists::list_rules;
 pub use lists::rule_after;

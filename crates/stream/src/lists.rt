@@ -5,9 +5,10 @@ ghost use mathlib.Core.Path.{_≡_};
 ghost use Prim.Native.Nat.{ℕ, _+_, _*_, _-_, _≤_, _<_};
 ghost use lib.ListN.{length, getD, set};
 ghost use Rattle.laws.specs.StreamCauses.{RuleKind};
-ghost use Rattle.stream.specs.RuleLists.{symbols, symbol, SymbolAt, firstCell, Room, RuleLists, TellsFirst, TellsNext};
+ghost use Rattle.stream.specs.RuleLists.{symbols, symbol, SymbolAt, firstCell, Room, RuleLists, AddsState, TellsFirst, TellsNext, TellsAccepting};
 use crate::lengths::body_length;
 use crate::record::byte_at;
+use paper::kinds::ACCEPTING_STATE;
 use paper::kinds::BRANCH_RULE;
 use paper::kinds::LEAF_RULE;
 use paper::limits::HIGHEST_LABEL;
@@ -20,8 +21,10 @@ const LABELS: usize = 64;
 // A symbol for each label of the leaf rules, then for each of the branch rules.
 const SYMBOLS: usize = 2 * LABELS;
 
-// Behind the symbols' numbers and that of the accepting states the cells of the rules begin.
-const FIRST_CELL: usize = SYMBOLS + 1;
+// Behind the symbols' numbers stands that of the accepting states, a bit for each, and behind it the
+// cells of the rules begin.
+const ACCEPTING_CELL: usize = SYMBOLS;
+const FIRST_CELL: usize = ACCEPTING_CELL + 1;
 
 // The length of a leaf rule. No rule is shorter, so no two rules share a cell.
 const SHORTEST_RULE: usize = 4;
@@ -62,7 +65,6 @@ fn symbol_at(input: &[u8], at: usize) -> usize
 // No rule yet: each list ends at once, and its last cell is its first.
 fn start_lists(lists: &mut [u16], last: &mut [u16], end: u16)
     requires { ⌜ (symbols ≤ length (now lists)) × (length (now last) ≡ symbols) ⌝ }
-    ensures { λ _. ⌜ (length (now (lists .exit)) ≡ length (now (lists .entry))) × (length (now (last .exit)) ≡ symbols) ⌝ }
     ensures { λ _. ⌜ ((s : ℕ) → s < symbols → (getD (now (lists .exit)) s 0 ≡ end) × (getD (now (last .exit)) s 0 ≡ s)) ⌝ }
 {
     // Ends with the symbols.
@@ -89,6 +91,22 @@ fn add_rule(lists: &mut [u16], last: &mut [u16], symbol: usize, cell: usize, at:
     last[symbol] = cell as u16;
 }
 
+// These accepting states, and that of the record at a position if it is one's. A state that no query
+// has is left out, as it has no bit.
+fn with_state(input: &[u8], at: usize, accepting: u16) -> u16
+    requires { ⌜ at < length (now input) ⌝ }
+    ensures { λ r. ⌜ AddsState (now (input .entry)) at accepting r ⌝ }
+{
+    if input[at] != ACCEPTING_STATE {
+        return accepting;
+    }
+    let state = byte_at(input, at + 1) as usize;
+    if MOST_STATES <= state {
+        return accepting;
+    }
+    accepting | 1u16 << state
+}
+
 // The lists of the rules that stand from a position on, in file order: a rule is put behind the last
 // one of its symbol, whose cell is kept in `last`.
 pub fn list_rules(input: &[u8], from: usize, lists: &mut [u16])
@@ -100,6 +118,7 @@ pub fn list_rules(input: &[u8], from: usize, lists: &mut [u16])
     let end = input.len() as u16;
     start_lists(&mut *lists, &mut last, end);
     // Ends with the input: a turn steps over a kind at least.
+    let mut accepting: u16 = 0;
     let mut at = from;
     while at < input.len() {
         let symbol = symbol_at(input, at);
@@ -107,8 +126,10 @@ pub fn list_rules(input: &[u8], from: usize, lists: &mut [u16])
             let cell = FIRST_CELL + (at - from) / SHORTEST_RULE;
             add_rule(&mut *lists, &mut last, symbol, cell, at as u16);
         }
+        accepting = with_state(input, at, accepting);
         at = at + 1 + body_length(input[at]);
     }
+    lists[ACCEPTING_CELL] = accepting;
 }
 
 // In a function of its own so that the cast is proved once.
@@ -135,4 +156,13 @@ pub fn rule_after(lists: &[u16], from: usize, rule: usize) -> usize
 {
     let cell = FIRST_CELL + (rule - from) / SHORTEST_RULE;
     wide(lists[cell])
+}
+
+// Whether a state is accepting.
+pub fn accepts(lists: &[u16], state: usize) -> bool
+    requires { ⌜ state < 16 ⌝ }
+    requires { ⌜ firstCell ≤ length (now lists) ⌝ }
+    ensures { λ r. ⌜ TellsAccepting (now (lists .entry)) state r ⌝ }
+{
+    (lists[ACCEPTING_CELL] >> state) % 2 == 1
 }

@@ -1,4 +1,4 @@
--- `lists::list_rules` meets its contract: the lists are linked up to the position.
+-- `lists::list_rules` meets its contract: up to the position the lists are linked, and the accepting states are those of the records passed.
 use mathlib.Core.List.{List}
 use mathlib.Core.Logic.{⊎-elim}
 use mathlib.Core.Path.{_∙_, _≡_, ap, refl, subst, sym}
@@ -6,17 +6,19 @@ use Prim.Native.Nat.{_+_, _-_, _<_, _≤_, ℕ}
 use native.Mathlib.Omega.{arith}
 use borrow.Author.Needs.{needs}
 use lib.ListN.{getD, length, length-set}
+use Rattle.stream.specs.RuleLists.{Room, acceptingCell}
+use Rattle.stream.proofs.AcceptingBits.{Accepted, accepted-all, accepted-more, accepted-none}
 use Rattle.stream.proofs.LengthTable.{short}
-use Rattle.stream.specs.RuleLists.{Room}
 use Rattle.stream.proofs.Linking.{Going, cell-room, goes-on, goes-past, last-low, linked-all, linked-none}
 use Rattle.stream.proofs.lists.list_rules.Statement.{statement}
 use Rattle.stream.proofs.lists.list_rules.Tie as tie
 
 abbrev Inv-loop : tie.InvT-loop
-Inv-loop input from lists₀ last₀ end at₀ lists last at = Going input from (length lists₀) at lists last
+Inv-loop input from lists₀ last₀ end accepting₀ at₀ lists last accepting at =
+    Going input from (length lists₀) at lists last × Accepted input from at accepting
 
 abbrev μ-loop : tie.MeasureT-loop
-μ-loop input from lists₀ last₀ end at₀ lists last at = length input - at
+μ-loop input from lists₀ last₀ end accepting₀ at₀ lists last accepting at = length input - at
 
 -- what is known at the loop
 module _ (l : tie.At-loop Inv-loop μ-loop) where
@@ -30,8 +32,9 @@ module _ (l : tie.At-loop Inv-loop μ-loop) where
   pre = start .pre .0
 
   room : Room input (start .args .from) (length (l .before .before .before .before .start-lists .last .0))
-  room = let e = l .before .before .before .before .start-lists .ensures .0 .0 in
-      (omega (arith, e, start .pre .1), omega (arith, e, start .pre .1))
+  room =
+      let same = l .before .before .before .before .start-lists .kept .0 in
+      (omega (arith, same, start .pre .1), omega (arith, same, start .pre .1))
 
 cast-end : tie.Need-cast-end Inv-loop μ-loop
 cast-end c = search needs
@@ -44,13 +47,15 @@ start-lists-requires c κs = search needs
 
 loop-holds : tie.Need-loop-holds Inv-loop μ-loop
 loop-holds c =
-    let k = c .before .before .before .start-lists in
-    record {
-      behind = omega arith;
-      sized = refl;
-      long = k .ensures .0 .1;
-      linked = linked-none _ _ _ _ (k .ensures .1);
-    }
+    let k = c .before .before .before .start-lists in (
+      record {
+        behind = omega arith;
+        sized = refl;
+        long = k .kept .1 .0;
+        linked = linked-none _ _ _ _ (k .ensures);
+      },
+      accepted-none _ _,
+    )
 
 symbol-at-requires : tie.Need-symbol-at-requires Inv-loop μ-loop
 symbol-at-requires c κs = search needs
@@ -72,15 +77,18 @@ add-rule-requires c κs =
     let p = c .before .before in
     let l = p .before .before .before in (
       (
-        omega (arith, p .if1 .taken, l .loop .inv .long),
+        omega (arith, p .if1 .taken, l .loop .inv .0 .long),
         omega (
           arith,
-          last-low _ _ _ _ _ (l .loop .inv .linked) (p .before .before .loop-test .taken) (p .before .symbol-at .result) (p .if1 .taken),
-          cell-room _ _ _ _ _ _ (l .loop .inv) (p .before .before .loop-test .taken) (room l),
+          last-low _ _ _ _ _ (l .loop .inv .0 .linked) (p .before .before .loop-test .taken) (p .before .symbol-at .result) (p .if1 .taken),
+          cell-room _ _ _ _ _ _ (l .loop .inv .0) (p .before .before .loop-test .taken) (room l),
         ),
       ),
-      (cell-room _ _ _ _ _ _ (l .loop .inv) (p .before .before .loop-test .taken) (room l), omega (arith, pre l)),
+      (cell-room _ _ _ _ _ _ (l .loop .inv .0) (p .before .before .loop-test .taken) (room l), omega (arith, pre l)),
     )
+
+with-state-requires : tie.Need-with-state-requires Inv-loop μ-loop
+with-state-requires c κs = search needs
 
 add-at : tie.Need-add-at Inv-loop μ-loop
 add-at c = search needs
@@ -93,7 +101,7 @@ body-length-requires c κs = search needs
 
 add-at-2 : tie.Need-add-at-2 Inv-loop μ-loop
 add-at-2 c =
-    let k = c .before .before .before .before in
+    let k = c .before .before .before .before .before in
     omega (arith, k .loop-test .taken, c .body-length .ensures, short (getD (input (k .before)) (k .before .loop .at) 0))
 
 loop-less : tie.Need-loop-less Inv-loop μ-loop
@@ -101,23 +109,34 @@ loop-less c = search needs
 
 loop-again : tie.Need-loop-again Inv-loop μ-loop
 loop-again c =
-    let j = c .before .before in
-    let k = c .before .before .before .before in
+    let state = c .before .before .with-state in
+    let j = c .before .before .before in
+    let k = j .before .before in
     let l = k .before in
-    let past = ap (λ n. l .loop .at + 1 + n) (c .body-length .ensures) in
-    ⊎-elim
-    (λ w.
-    goes-on _ _ _ _ _ _ (l .loop .inv) (k .loop-test .taken) _ _ (j .before .symbol-at .ensures) past (room l) (w .0 .taken) _ _
-    (w .7 ∙ w .3 .ensures .0) (w .8 ∙ w .3 .ensures .1))
-    (λ w.
-    rw (w .1, w .2) (goes-past _ _ _ _ _ _ (l .loop .inv) (k .loop-test .taken) _ _ (j .before .symbol-at .ensures) past (w .0 .left)))
-    (j .if1 .came)
+    let past = ap (λ n. l .loop .at + 1 + n) (c .body-length .ensures) in (
+      ⊎-elim
+      (λ w.
+      goes-on _ _ _ _ _ _ (l .loop .inv .0) (k .loop-test .taken) _ _ (j .before .symbol-at .ensures) past (room l) (w .0 .taken) _ _
+      (w .7 ∙ w .3 .ensures .0) (w .8 ∙ w .3 .ensures .1))
+      (λ w.
+      rw (w .1, w .2) (goes-past _ _ _ _ _ _ (l .loop .inv .0) (k .loop-test .taken) _ _ (j .before .symbol-at .ensures) past (w .0 .left)))
+      (j .if1 .came),
+      accepted-more _ _ _ _ (l .loop .inv .1) _ _ (k .loop-test .taken) past (state .ensures),
+    )
+
+slice-write-lists : tie.Need-slice-write-lists Inv-loop μ-loop
+slice-write-lists c = let l = c .before in omega (arith, l .loop .inv .0 .sized, room l)
 
 same-length : tie.Need-same-length Inv-loop μ-loop
-same-length c = search needs
+same-length c =
+    let l = c .before in
+    length-set (l .loop .lists) acceptingCell (l .loop .accepting) ∙ l .loop .inv .0 .sized ∙ l .before .before .before .before .start-lists .kept .0
 
 returns : tie.Need-returns Inv-loop μ-loop
-returns c = linked-all _ _ _ _ _ (c .before .loop .inv .linked) (c .loop-test .left)
+returns c =
+    let l = c .before in
+    linked-all _ _ _ _ _ (l .loop .inv .0 .linked) (c .loop-test .left) _ (omega (arith, l .loop .inv .0 .sized, room l))
+    (accepted-all _ _ _ _ (l .loop .inv .1) (c .loop-test .left))
 
 pub list-rules-spec : {M : Type 1} → statement M
 list-rules-spec =
@@ -135,11 +154,13 @@ list-rules-spec =
     slice-aggregate-add-rule
     cast-add-rule
     add-rule-requires
+    with-state-requires
     add-at
     shared-slice-read-body-length
     body-length-requires
     add-at-2
     loop-less
     loop-again
+    slice-write-lists
     same-length
     returns)

@@ -56,9 +56,7 @@ same-length-2 : tie.Need-same-length-2 Inv-loop μ-loop
 same-length-2 c = search needs
 
 returns : tie.Need-returns Inv-loop μ-loop
-returns c =
-    let k = c .before .loop in
-    ((k .inv .1, k .inv .2 ∙ c .before .before .pre .1), λ s h. k .inv .3 s (omega arith))
+returns c = λ s h. c .before .loop .inv .3 s (omega arith)
 
 pub start-lists-spec : {M : Type 1} → statement M
 start-lists-spec =
