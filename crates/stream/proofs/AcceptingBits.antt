@@ -2,11 +2,10 @@
 -- record more, and all of them.
 use mathlib.Core.Bool.{Bool, _||_, cond, false, or-assoc, or-false, or-true, true}
 use mathlib.Core.List.{List, [], _∷_}
-use mathlib.Core.Logic.{⊎-elim}
 use mathlib.Core.Path.{_∙_, _≡_, ap, refl, sym}
-use Prim.Native.Nat.{_%_, _*_, _+_, _/_, _<_, _^_, _≤_, max, suc, zero, ℕ}
+use Prim.Native.Nat.{_%_, _*_, _+_, _/_, _<_, _^_, _≤_, suc, zero, ℕ}
 use native.Mathlib.Omega.{arith}
-use borrow.Author.Tests.{eq-eqb, eqb-false, eqb-true, ne-eqb}
+use borrow.Author.Tests.{eq-eqb, eqb-true, ne-eqb}
 use lib.Bits.{bitOr, or-step, or-zero-r}
 use lib.Dec.{eqb}
 use lib.ListN.{drop, getD, length}
@@ -14,7 +13,7 @@ use lib.Pow.{shl-exact, shr-shr}
 use Rattle.paper.specs.Lists.{has}
 use Rattle.paper.specs.Query.{acceptingOf}
 use Rattle.paper.specs.Questions.{hasPlace}
-use Rattle.paper.specs.Stream.{StreamRecord, bodyLength, number, recordsOf}
+use Rattle.paper.specs.Stream.{StreamRecord, number, recordsOf}
 use Rattle.laws.proofs.Bits.{no-places}
 use Rattle.laws.proofs.Lists.{iff-eq}
 use Rattle.stream.specs.Positions.{after, recordAt}
@@ -118,4 +117,5 @@ module _ (input : List ℕ) (from at bits : ℕ) (k : Accepted input from at bit
 
   -- none left
   pub accepted-all : length input ≤ at → (q : ℕ) → q < 16 → hasPlace bits q ≡ has (acceptingOf (recordsOf (drop from input))) q
-  accepted-all ended q h = sym (or-false (hasPlace bits q)) ∙ ap (λ rs. hasPlace bits q || has (acceptingOf rs) q) (sym (records-none input at ended)) ∙ k .states q h
+  accepted-all ended q h =
+      sym (or-false (hasPlace bits q)) ∙ ap (λ rs. hasPlace bits q || has (acceptingOf rs) q) (sym (records-none input at ended)) ∙ k .states q h

@@ -1,19 +1,19 @@
 -- Symbols: a record is a rule of at most one, told by its first two bytes. Then the positions of records, one behind the other, and that
 -- the cell of each rule is its own.
-use mathlib.Core.Bool.{Bool, _&&_, false, true}
+use mathlib.Core.Bool.{false, true}
 use mathlib.Core.List.{List}
 use mathlib.Core.Logic.{⊎-elim}
-use mathlib.Core.Path.{_∙_, _≡_, refl, subst, sym}
-use Prim.Native.Nat.{_%_, _*_, _+_, _-_, _/_, _<_, _≤_, suc, zero, ℕ}
+use mathlib.Core.Path.{_∙_, _≡_, subst, sym}
+use Prim.Native.Nat.{_+_, _<_, _≤_, suc, zero, ℕ}
 use native.Mathlib.Omega.{arith}
 use borrow.Author.Tests.{eq-eqb, eqb-false, eqb-true, ltb-false, ltb-true, ne-eqb}
 use lib.Dec.{eqb, ltb}
 use lib.ListN.{getD, length}
 use Rattle.paper.specs.Query.{isRuleKind}
-use Rattle.paper.specs.Stream.{StreamRecord, bodyLength, number}
+use Rattle.paper.specs.Stream.{StreamRecord, number}
 use Rattle.laws.specs.StreamCauses.{RuleKind}
 use Rattle.laws.proofs.Lists.{both-true, iff-eq, which}
-use Rattle.stream.specs.Positions.{after, isRuleFor, recordAt}
+use Rattle.stream.specs.Positions.{after, recordAt}
 use Rattle.stream.specs.RuleLists.{SymbolAt, cellOf, isFor, kindFor, labelFor, place, symbol, symbols}
 use Rattle.stream.proofs.RuleSearch.{by-label, other-kind, rule-between}
 
@@ -27,9 +27,6 @@ module _ (kind label : ℕ) (rule : RuleKind kind) (low : label ≤ 63) where
 
   pub symbol-low : symbol kind label < symbols
   symbol-low = ⊎-elim (λ e. omega arith) (λ e. omega arith) rule
-
-  one-name : (s : ℕ) → kind ≡ kindFor s → label ≡ labelFor s → symbol kind label ≡ s
-  one-name s a b = omega arith
 
 -- ---- the symbol of a record
 -- a rule of a symbol has its kind and its label
@@ -57,12 +54,6 @@ module _ (input : List ℕ) (at : ℕ) (inside : at < length input) where
       ∙ sym (none-behind s h)
 
   module _ (rule : RuleKind (getD input at 0)) where
-    kind : ℕ
-    kind = getD input at 0
-
-    label : ℕ
-    label = getD input (at + 1) 0
-
     -- a rule is judged by its label, where its kind is the symbol's
     by-test : (x s : ℕ) → (getD input at 0 ≡ kindFor s → eqb (getD input (at + 1) 0) (labelFor s) ≡ eqb x s)
         → ((getD input at 0 ≡ kindFor s → ⊥) → eqb x s ≡ false) → isFor s (recordAt input at) ≡ eqb x s
@@ -99,21 +90,19 @@ module _ (input : List ℕ) (from : ℕ) where
   place-from zero = omega arith
   place-from (suc i) = omega (arith, place-from i)
 
-  -- each record lies before the later ones
-  pub place-after : (i j : ℕ) → i < j → after input (place input from i) ≤ place input from j
-  place-after i zero h = absurd (omega arith)
-  place-after i (suc j) h =
-      ⊎-elim (λ e. let z : i < j = ltb-true i j e in omega (arith, place-after i j z)) (λ e. same (omega (arith, ltb-false i j e))) (which (ltb i j))
-    where
-      same : i ≡ j → after input (place input from i) ≤ after input (place input from j)
-      same z = rw z (omega arith)
-
+  -- a record lies at or behind each earlier one
   pub place-up : (i j : ℕ) → i ≤ j → place input from i ≤ place input from j
-  place-up i j h =
-      ⊎-elim (λ e. let z : i < j = ltb-true i j e in omega (arith, place-after i j z)) (λ e. same (omega (arith, ltb-false i j e))) (which (ltb i j))
+  place-up i zero h = let none : i ≡ 0 = omega arith in rw none (omega arith)
+  place-up i (suc j) h =
+      ⊎-elim (λ e. let earlier = place-up i j (omega (arith, ltb-true i (suc j) e)) in omega (arith, earlier))
+      (λ e. same (omega (arith, ltb-false i (suc j) e))) (which (ltb i (suc j)))
     where
-      same : i ≡ j → place input from i ≤ place input from j
-      same z = rw z (omega arith)
+      same : i ≡ suc j → place input from i ≤ place input from (suc j)
+      same e = rw e (omega arith)
+
+  -- and behind its end
+  place-after : (i j : ℕ) → i < j → after input (place input from i) ≤ place input from j
+  place-after i j h = place-up (suc i) j (omega arith)
 
   -- a rule is at least four bytes long
   rule-long : (s at : ℕ) → s < symbols → isFor s (recordAt input at) ≡ true → at + 4 ≤ after input at

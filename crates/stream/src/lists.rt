@@ -16,7 +16,7 @@ use paper::limits::MOST_RULES;
 use paper::limits::MOST_STATES;
 
 // The labels, from 0 on.
-const LABELS: usize = 64;
+const LABELS: usize = HIGHEST_LABEL as usize + 1;
 
 // A symbol for each label of the leaf rules, then for each of the branch rules.
 const SYMBOLS: usize = 2 * LABELS;
@@ -24,18 +24,25 @@ const SYMBOLS: usize = 2 * LABELS;
 // Behind the symbols' numbers stands that of the accepting states, a bit for each, and behind it the
 // cells of the rules begin.
 const ACCEPTING_CELL: usize = SYMBOLS;
+
 const FIRST_CELL: usize = ACCEPTING_CELL + 1;
 
-// The length of a leaf rule. No rule is shorter, so no two rules share a cell.
+// The bytes of a record with its kind: a leaf rule has the fewest of a rule, a branch rule the most.
 const SHORTEST_RULE: usize = 4;
 
-// A query that is read has at most so many bytes behind its head: branch rules of six bytes, and
-// accepting states of two, each said once.
-const MOST_BYTES: usize = MOST_RULES * 6 + MOST_STATES * 2;
+const LONGEST_RULE: usize = 6;
 
-// So long are lists that have room for the rules of any query that is read.
+const STATE_RECORD: usize = 2;
+
+// A query that is read has at most so many bytes behind its head, as it says no accepting state twice.
+const MOST_BYTES: usize = MOST_RULES * LONGEST_RULE + MOST_STATES * STATE_RECORD;
+
+// So long are lists that have room for the rules of any query that is read: 1,673 numbers. A rule's
+// cell is told by its position, one for each four bytes, as no rule is shorter: so no two rules share
+// a cell, and no table of rules is needed.
 pub const LIST_NUMBERS: usize = FIRST_CELL + MOST_BYTES / SHORTEST_RULE;
 
+// The number of a symbol.
 fn symbol_of(kind: u8, label: u8) -> usize
     requires { ⌜ RuleKind kind × (label ≤ 63) ⌝ }
     ensures { λ r. ⌜ r ≡ symbol kind label ⌝ }

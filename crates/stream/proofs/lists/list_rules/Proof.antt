@@ -1,15 +1,15 @@
 -- `lists::list_rules` meets its contract: up to the position the lists are linked, and the accepting states are those of the records passed.
 use mathlib.Core.List.{List}
 use mathlib.Core.Logic.{⊎-elim}
-use mathlib.Core.Path.{_∙_, _≡_, ap, refl, subst, sym}
-use Prim.Native.Nat.{_+_, _-_, _<_, _≤_, ℕ}
+use mathlib.Core.Path.{_∙_, ap}
+use Prim.Native.Nat.{_+_, _-_, _<_, ℕ}
 use native.Mathlib.Omega.{arith}
 use borrow.Author.Needs.{needs}
 use lib.ListN.{getD, length, length-set}
 use Rattle.stream.specs.RuleLists.{Room, acceptingCell}
 use Rattle.stream.proofs.AcceptingBits.{Accepted, accepted-all, accepted-more, accepted-none}
 use Rattle.stream.proofs.LengthTable.{short}
-use Rattle.stream.proofs.Linking.{Going, cell-room, goes-on, goes-past, last-low, linked-all, linked-none}
+use Rattle.stream.proofs.Linking.{Going, cell-room, goes-on, goes-past, going-behind, going-ends, going-starts, last-before}
 use Rattle.stream.proofs.lists.list_rules.Statement.{statement}
 use Rattle.stream.proofs.lists.list_rules.Tie as tie
 
@@ -47,21 +47,13 @@ start-lists-requires c κs = search needs
 
 loop-holds : tie.Need-loop-holds Inv-loop μ-loop
 loop-holds c =
-    let k = c .before .before .before .start-lists in (
-      record {
-        behind = omega arith;
-        sized = refl;
-        long = k .kept .1 .0;
-        linked = linked-none _ _ _ _ (k .ensures);
-      },
-      accepted-none _ _,
-    )
+    let k = c .before .before .before .start-lists in (going-starts _ _ _ _ (k .kept .1 .0) (k .ensures), accepted-none _ _)
 
 symbol-at-requires : tie.Need-symbol-at-requires Inv-loop μ-loop
 symbol-at-requires c κs = search needs
 
 sub-cell : tie.Need-sub-cell Inv-loop μ-loop
-sub-cell c = search needs
+sub-cell c = let l = c .before .before .before in going-behind _ _ _ _ _ _ (l .loop .inv .0)
 
 add-cell : tie.Need-add-cell Inv-loop μ-loop
 add-cell c = search needs
@@ -80,7 +72,7 @@ add-rule-requires c κs =
         omega (arith, p .if1 .taken, l .loop .inv .0 .long),
         omega (
           arith,
-          last-low _ _ _ _ _ (l .loop .inv .0 .linked) (p .before .before .loop-test .taken) (p .before .symbol-at .result) (p .if1 .taken),
+          last-before _ _ _ _ _ _ (l .loop .inv .0) (p .before .before .loop-test .taken) (p .before .symbol-at .result) (p .if1 .taken),
           cell-room _ _ _ _ _ _ (l .loop .inv .0) (p .before .before .loop-test .taken) (room l),
         ),
       ),
@@ -115,12 +107,12 @@ loop-again c =
     let l = k .before in
     let past = ap (λ n. l .loop .at + 1 + n) (c .body-length .ensures) in (
       ⊎-elim
-      (λ w.
-      goes-on _ _ _ _ _ _ (l .loop .inv .0) (k .loop-test .taken) _ _ (j .before .symbol-at .ensures) past (room l) (w .0 .taken) _ _
-      (w .7 ∙ w .3 .ensures .0) (w .8 ∙ w .3 .ensures .1))
-      (λ w.
-      rw (w .1, w .2) (goes-past _ _ _ _ _ _ (l .loop .inv .0) (k .loop-test .taken) _ _ (j .before .symbol-at .ensures) past (w .0 .left)))
-      (j .if1 .came),
+          (λ w.
+          goes-on _ _ _ _ _ _ (l .loop .inv .0) (k .loop-test .taken) _ _ (j .before .symbol-at .ensures) past (room l) (w .0 .taken) _ _
+          (w .7 ∙ w .3 .ensures .0) (w .8 ∙ w .3 .ensures .1))
+          (λ w.
+          rw (w .1, w .2) (goes-past _ _ _ _ _ _ (l .loop .inv .0) (k .loop-test .taken) _ _ (j .before .symbol-at .ensures) past (w .0 .left)))
+          (j .if1 .came),
       accepted-more _ _ _ _ (l .loop .inv .1) _ _ (k .loop-test .taken) past (state .ensures),
     )
 
@@ -135,7 +127,7 @@ same-length c =
 returns : tie.Need-returns Inv-loop μ-loop
 returns c =
     let l = c .before in
-    linked-all _ _ _ _ _ (l .loop .inv .0 .linked) (c .loop-test .left) _ (omega (arith, l .loop .inv .0 .sized, room l))
+    going-ends _ _ _ _ _ _ (l .loop .inv .0) (c .loop-test .left) (room l) _
     (accepted-all _ _ _ _ (l .loop .inv .1) (c .loop-test .left))
 
 pub list-rules-spec : {M : Type 1} → statement M

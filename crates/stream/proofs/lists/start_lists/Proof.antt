@@ -1,10 +1,9 @@
 -- `lists::start_lists` meets its contract: the symbols so far have no rule.
-use mathlib.Core.Logic.{⊎-elim}
 use mathlib.Core.Path.{_∙_, _≡_, refl}
-use Prim.Native.Nat.{_+_, _-_, _<_, _≤_, ℕ}
+use Prim.Native.Nat.{_-_, _≤_}
 use native.Mathlib.Omega.{arith}
 use borrow.Author.Needs.{needs}
-use lib.ListN.{getD, length, length-set}
+use lib.ListN.{length, length-set}
 use Rattle.stream.specs.RuleLists.{symbols}
 use Rattle.stream.proofs.Linking.{Unlinked, unlinked-more}
 use Rattle.stream.proofs.lists.start_lists.Statement.{statement}

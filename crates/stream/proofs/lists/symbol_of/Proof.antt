@@ -1,7 +1,5 @@
 -- `lists::symbol_of` meets its contract.
 use mathlib.Core.Logic.{⊎-elim}
-use mathlib.Core.Path.{_≡_}
-use Prim.Native.Nat.{_≤_}
 use native.Mathlib.Omega.{arith}
 use borrow.Author.Needs.{needs}
 use Rattle.stream.proofs.lists.symbol_of.Statement.{statement}
