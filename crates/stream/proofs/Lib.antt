@@ -5,6 +5,9 @@ pub mod EachRecord
 pub mod TreeSteps
 pub mod TreeReading
 pub mod SaidAgain
+pub mod KeyTable
+pub mod RecordKeys
+pub mod KeyBytes
 pub mod RuleSearch
 pub mod Symbols
 pub mod Linking

@@ -1,6 +1,6 @@
 -- The query, record by record. First what the loop over the records behind the head keeps up, and what it answers where one is refused
 -- and where the input ends; then the head, and the two together.
-use mathlib.Core.Bool.{cond, false, true}
+use mathlib.Core.Bool.{_&&_, cond, false, true}
 use mathlib.Core.List.{List, [], _++_, _∷_, append-assoc, append-nil}
 use mathlib.Core.Logic.{⊎-elim}
 use mathlib.Core.Path.{_∙_, _≡_, ap, ap₂, refl, subst, sym}
@@ -15,7 +15,7 @@ use Rattle.paper.specs.Refusals.{Test, answer, atEach, headTests, laterTests, q
 use Rattle.paper.specs.Stream.{StreamRecord, bodyLength, number, recordsOf}
 use Rattle.laws.proofs.Lists.{both-true, which}
 use Rattle.laws.proofs.Replies.{Passes, answered, answers, unless-append}
-use Rattle.stream.specs.OneRecord.{AtLaterRecord, QueryState, headReply, laterReply, queryStep, queryUpTo, queryWith}
+use Rattle.stream.specs.OneRecord.{AtLaterRecord, BehindHead, QueryState, headReply, laterReply, queryStep, queryUpTo, queryWith}
 use Rattle.stream.specs.Positions.{WholeBetween, after, recordAt, recordsBetween}
 use Rattle.stream.specs.Reading.{QueryFacts, queryFacts, queryReply}
 use Rattle.stream.proofs.EachRecord.{first-refused, passes-more, refused-append}
@@ -32,15 +32,15 @@ pub record QuerySoFar (input : List ℕ) (f : QueryFacts) (s : QueryState) : Typ
   pub state : s ≡ queryUpTo input f (s .at)
 
 -- right behind the head there is none
+pub no-records : (input : List ℕ) (f : QueryFacts) → recordsBetween input (f .rules) (f .rules) ≡ []
+no-records input f = ap recordsOf (slice-empty (f .rules) input)
+
 pub query-starts : (input : List ℕ) (f : QueryFacts) → f .rules ≤ length input → QuerySoFar input f (record { at = f .rules; rules = 0 })
 query-starts input f h = record {
   before = whole-none input (f .rules) h;
-  passed = subst (λ bytes. Passes (atEach (testsBehind f) [] (recordsOf bytes))) (sym none) tt;
-  state = λ i. record { at = f .rules; rules = ap (λ bytes. length (rulesOf (recordsOf bytes))) (sym none) i };
+  passed = subst (λ records. Passes (atEach (testsBehind f) [] records)) (sym (no-records input f)) tt;
+  state = λ i. record { at = f .rules; rules = ap (λ records. length (rulesOf records)) (sym (no-records input f)) i };
 }
-  where
-    none : drop (f .rules) (take (f .rules) input) ≡ []
-    none = slice-empty (f .rules) input
 
 module _ (input : List ℕ) (f : QueryFacts) (s : QueryState) (k : QuerySoFar input f s) where
   abbrev before : List StreamRecord
@@ -50,8 +50,8 @@ module _ (input : List ℕ) (f : QueryFacts) (s : QueryState) (k : QuerySoFar in
   all-records = records-between input (f .rules) (s .at) (k .before)
 
   module _ (here : s .at < length input) where
-    pub at-record : f .arity ≤ 4 → AtLaterRecord input f s
-    at-record few = record { few-places = few; before = k .before; state = k .state; here = here }
+    pub at-record : BehindHead input f → AtLaterRecord input f s
+    at-record h = record { few-places = h .few-places; few-states = h .few-states; before = k .before; state = k .state; here = here }
 
     -- one more record that passes
     pub query-goes-on : (next : QueryState) → answer next ≡ queryStep input f (s .at) → QuerySoFar input f next × (s .at < next .at)
@@ -143,11 +143,16 @@ module _ (input : List ℕ) (at : ℕ) where
     states : number head 1 ≡ facts .states
     states = ap (λ records. queryOf records .states) (sym (records-here input at inside))
 
-    few-places : facts .arity ≤ 4
-    few-places = omega (arith, arity, leb-true (number head 0) 4 (both-true (leb 1 (number head 0)) (leb (number head 0) 4) (p .1 .1 .1 .0) .1))
+    -- a number of it that is tested to be 1 to n
+    at-most : (x n : ℕ) → leb 1 x && leb x n ≡ true → x ≤ n
+    at-most x n e = leb-true x n (both-true (leb 1 x) (leb x n) e .1)
 
-    rules-inside : facts .rules ≤ length input
-    rules-inside = omega (arith, two-numbers, whole-inside input at inside (p .1 .1 .0))
+    in-range : BehindHead input facts
+    in-range = record {
+      few-places = omega (arith, arity, at-most (number head 0) 4 (p .1 .1 .1 .0));
+      few-states = omega (arith, states, at-most (number head 1) 16 (p .1 .1 .1 .1 .0));
+      inside = omega (arith, two-numbers, whole-inside input at inside (p .1 .1 .0));
+    }
 
     passed : queryReply input at ≡ laterReply input facts
     passed =
@@ -166,9 +171,8 @@ module _ (input : List ℕ) (at : ℕ) where
     read-head : Passes ((3, ltb at (length input)) ∷ headTests head) × (facts ≡ f)
     read-head = answered ((3, ltb at (length input)) ∷ headTests head) (sym e)
 
-    pub behind-head : (f .arity ≤ 4) × (f .rules ≤ length input)
-    behind-head =
-        subst (λ g. (g .arity ≤ 4) × (g .rules ≤ length input)) (read-head .1) (few-places (read-head .0), rules-inside (read-head .0))
+    pub behind-head : BehindHead input f
+    behind-head = subst (BehindHead input) (read-head .1) (in-range (read-head .0))
 
     pub head-passed : laterReply input f ≡ queryReply input at
     head-passed = subst (λ g. laterReply input g ≡ queryReply input at) (read-head .1) (sym (passed (read-head .0)))

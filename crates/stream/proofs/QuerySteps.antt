@@ -1,27 +1,33 @@
--- One record behind the head, after those before it. First the tests that a record fits, then rules and accepting states that are new,
--- then the state after it.
-use mathlib.Core.Bool.{Bool, _&&_, _||_, false, not, true, true≢false}
-use mathlib.Core.List.{List, [], _++_, _∷_}
+-- One record behind the head, after those before it. First the tests that a record fits, then the state after one that fits, then the
+-- two tests that are left: that there are not too many rules, and that it is new, by the table of what is said before.
+use mathlib.Core.Bool.{Bool, _&&_, _||_, false, not, or-assoc, or-comm, or-false, true, true≢false}
+use mathlib.Core.List.{List, List·Memᴰ·append-cases, [], _++_, _∷_, map}
 use mathlib.Core.Logic.{⊎-elim}
-use mathlib.Core.Path.{_∙_, _≡_, ap, refl, sym}
-use Prim.Native.Nat.{_+_, _<_, _≤_, ℕ}
+use mathlib.Core.Path.{_∙_, _≡_, ap, refl, subst, sym}
+use Prim.Native.Nat.{_*_, _+_, _<_, _≤_, ℕ}
 use native.Mathlib.Omega.{arith}
-use borrow.Author.Tests.{eqb-true, le-ltb, lt-ltb}
+use borrow.Author.Tests.{le-ltb, lt-ltb}
 use lib.Dec.{eqb, leb, ltb}
-use lib.ListN.{drop, getD, length, length-append, length-drop, length-take, take}
-use lib.Seq.{getD-drop, getD-take}
+use lib.ListN.{getD, length, length-append}
 use Rattle.paper.specs.Lists.{has}
-use Rattle.paper.specs.Query.{acceptingOf, isRuleKind, ruleOf, rulesOf, side}
-use Rattle.paper.specs.Refusals.{Test, answer, hasSide, inRange, isNew, refused, unless}
-use Rattle.paper.specs.Stream.{StreamRecord, bodyLength, number, whole}
-use Rattle.laws.proofs.Lists.{both-true, or-cases}
+use Rattle.paper.specs.Query.{isRuleKind, rulesOf}
+use Rattle.paper.specs.Refusals.{Test, answer, inRange, isNew, refused, unless}
+use Rattle.paper.specs.Stream.{StreamRecord, whole}
+use Rattle.laws.proofs.Lists.{both-true, only, or-right}
 use Rattle.laws.proofs.ReadQuery.{rules-append}
-use Rattle.laws.proofs.StreamPlaces.{begins-with}
-use Rattle.stream.specs.OneRecord.{AtLaterRecord, QueryState, fits, isSaid, queryStep, queryUpTo, queryWith, wholeInRange}
+use Rattle.stream.specs.Keys.{SaysKey, TableOf, WholeAt, hasKey, keyOf}
+use Rattle.stream.specs.OneRecord.{AtLaterRecord, QueryState, fits, queryStep, queryUpTo, queryWith, wholeInRange}
 use Rattle.stream.specs.Positions.{after, recordAt, recordsBetween}
 use Rattle.stream.specs.Reading.{QueryFacts}
-use Rattle.stream.proofs.Positions.{between-more, number-byte, whole-inside, word-here}
-use Rattle.stream.proofs.SaidAgain.{branch-said, leaf-said}
+use Rattle.stream.proofs.Positions.{between-more, whole-inside}
+use Rattle.stream.proofs.RecordKeys.{key-below, new-key}
+
+-- the keys of the records with one more
+has-more : (f : QueryFacts) (xs : List StreamRecord) (r : StreamRecord) (j : ℕ)
+    → has (map (keyOf f) (xs ++ (r ∷ []))) j ≡ has (map (keyOf f) xs) j || eqb (keyOf f r) j
+has-more f [] r j = or-false (eqb (keyOf f r) j)
+has-more f (x ∷ xs) r j =
+    ap (λ b. eqb (keyOf f x) j || b) (has-more f xs r j) ∙ sym (or-assoc (eqb (keyOf f x) j) (has (map (keyOf f) xs) j) (eqb (keyOf f r) j))
 
 -- ---- a record that fits
 -- three tests in a row that give one number
@@ -61,58 +67,10 @@ module _ (input : List ℕ) (f : QueryFacts) (at : ℕ) where
   fit : fits f r ≡ true → queryStep input f at ≡ unless newTests (queryUpTo input f (after input at))
   fit e = three-hold known (whole r) (inRange (queryWith f before) r) 3 newTests (queryUpTo input f (after input at)) e
 
-  -- ---- rules
-  module _ (whole-record : after input at ≤ length input) where
-    bytes-long : 1 + bodyLength (getD input at 0) ≤ length (drop at input)
-    bytes-long = omega (arith, length-drop at input)
-
-    word : (i : ℕ) → i ≤ bodyLength (getD input at 0) → getD (drop at input) i 0 ≡ getD (r .kind ∷ r .body) i 0
-    word i h = getD-drop at input i 0 ∙ sym (word-here input at i h)
-
-    -- the first bytes of a leaf rule, and of a branch rule
-    leaf-words : getD input at 0 ≡ 17 → take 3 (drop at input) ≡ 17 ∷ number r 0 ∷ number r 1 ∷ []
-    leaf-words e =
-        let long : bodyLength (getD input at 0) ≡ 3 = ap bodyLength e in
-        ap (take 3) (begins-with 3 (drop at input) (omega (arith, bytes-long)))
-        ∙ rw (word 0 (omega arith), word 1 (omega arith), word 2 (omega arith)) (ap {B = List ℕ} (λ k. k ∷ number r 0 ∷ number r 1 ∷ []) e)
-
-    branch-words : getD input at 0 ≡ 18 → take 5 (drop at input) ≡ 18 ∷ number r 0 ∷ number r 1 ∷ number r 2 ∷ number r 3 ∷ []
-    branch-words e =
-        let long : bodyLength (getD input at 0) ≡ 5 = ap bodyLength e in
-        ap (take 5) (begins-with 5 (drop at input) (omega (arith, bytes-long)))
-        ∙ rw (word 0 (omega arith), word 1 (omega arith), word 2 (omega arith), word 3 (omega arith), word 4 (omega arith))
-        (ap {B = List ℕ} (λ k. k ∷ number r 0 ∷ number r 1 ∷ number r 2 ∷ number r 3 ∷ []) e)
-
-    -- as many bytes as the body has begin with the kind, and are not more than the record
-    pub side-fits : 1 ≤ bodyLength (getD input at 0) → (n : ℕ) → n ≡ bodyLength (getD input at 0)
-        → length (take n (drop at input)) ≤ 1 + bodyLength (getD (take n (drop at input)) 0 0)
-    side-fits some n e =
-        let kind : getD (take n (drop at input)) 0 0 ≡ getD input at 0 = getD-take n (drop at input) 0 0 (omega arith) ∙ word 0 (omega arith) in
-        omega (arith, length-take n (drop at input), ap bodyLength kind)
-
-    -- the kind and the left side of the rule are its first bytes
-    side-said : isRuleKind (getD input at 0) ≡ true
-        → isSaid (take (bodyLength (getD input at 0)) (drop at input)) before ≡ hasSide (rulesOf before) (side (ruleOf r))
-    side-said h = ⊎-elim leaf branch (or-cases (eqb (getD input at 0) 17) (eqb (getD input at 0) 18) h)
-      where
-        Said : Type 0
-        Said = isSaid (take (bodyLength (getD input at 0)) (drop at input)) before ≡ hasSide (rulesOf before) (side (ruleOf r))
-
-        leaf : eqb (getD input at 0) 17 ≡ true → Said
-        leaf c =
-            let e : getD input at 0 ≡ 17 = eqb-true (getD input at 0) 17 c in
-            let its-side : side (ruleOf r) ≡ 17 ∷ number r 0 ∷ number r 1 ∷ [] = rw c refl in
-            ap (λ n. isSaid (take n (drop at input)) before) (ap bodyLength e)
-            ∙ ap (λ ws. isSaid ws before) (leaf-words e) ∙ leaf-said before (number r 0) (number r 1)
-            ∙ ap (hasSide (rulesOf before)) (sym its-side)
-
-        branch : eqb (getD input at 0) 18 ≡ true → Said
-        branch c =
-            let e : getD input at 0 ≡ 18 = eqb-true (getD input at 0) 18 c in
-            let its-side : side (ruleOf r) ≡ 18 ∷ number r 0 ∷ number r 1 ∷ number r 2 ∷ number r 3 ∷ [] = rw (ap (λ k. eqb k 17) e) refl in
-            ap (λ n. isSaid (take n (drop at input)) before) (ap bodyLength e)
-            ∙ ap (λ ws. isSaid ws before) (branch-words e) ∙ branch-said before (number r 0) (number r 1) (number r 2) (number r 3)
-            ∙ ap (hasSide (rulesOf before)) (sym its-side)
+  -- ---- what the two tests say of one that fits
+  decided : (a b : Bool) → fits f r ≡ true → not (isRuleKind (r .kind)) || ltb (length (rulesOf before)) 1024 ≡ a
+      → isNew (queryWith f before) r ≡ b → queryStep input f at ≡ unless ((3, a) ∷ (4, b) ∷ []) (queryUpTo input f (after input at))
+  decided a b e room new = fit e ∙ λ i. unless ((3, room i) ∷ (4, new i) ∷ []) (queryUpTo input f (after input at))
 
 -- ---- one record that fits, and the state after it
 module _ (input : List ℕ) (f : QueryFacts) (s : QueryState) (k : AtLaterRecord input f s) (fitting : fits f (recordAt input (s .at)) ≡ true) where
@@ -141,52 +99,58 @@ module _ (input : List ℕ) (f : QueryFacts) (s : QueryState) (k : AtLaterRecord
       rules-next : n ≡ length (rulesOf (recordsBetween input (f .rules) (after input (s .at))))
       rules-next = rw (all, rules-append earlier (new ∷ [])) (omega (arith, length-append (rulesOf earlier) (rulesOf (new ∷ [])), rules-so-far))
 
-  -- a rule
-  module _ (rule : isRuleKind (getD input (s .at) 0) ≡ true) where
-    pub some-numbers : 1 ≤ bodyLength (getD input (s .at) 0)
-    some-numbers =
-        ⊎-elim (λ c. omega (arith, ap bodyLength (eqb-true (getD input (s .at) 0) 17 c)))
-        (λ c. omega (arith, ap bodyLength (eqb-true (getD input (s .at) 0) 18 c)))
-        (or-cases (eqb (getD input (s .at) 0) 17) (eqb (getD input (s .at) 0) 18) rule)
+  -- ---- the number of rules
+  -- not a 1,025th rule
+  abbrev room : Bool
+  room = not (isRuleKind (new .kind)) || ltb (length (rulesOf earlier)) 1024
 
-    -- 3: the 1,025th rule
-    pub many-rules : 1024 ≤ s .rules → refused 3 ≡ queryStep input f (s .at)
-    many-rules h = sym (fit input f (s .at) fitting ∙ rw (rule, le-ltb (length (rulesOf earlier)) 1024 (omega (arith, rules-so-far))) refl)
+  -- 3: one
+  pub many-rules : isRuleKind (getD input (s .at) 0) ≡ true → 1024 ≤ s .rules → refused 3 ≡ queryStep input f (s .at)
+  many-rules rule h =
+      sym (decided input f (s .at) false _ fitting (rw (rule, le-ltb (length (rulesOf earlier)) 1024 (omega (arith, rules-so-far))) refl) refl)
 
-    module _ (few : s .rules < 1024) where
-      few-rules : ltb (length (rulesOf earlier)) 1024 ≡ true
-      few-rules = lt-ltb (length (rulesOf earlier)) 1024 (omega (arith, rules-so-far))
+  pub few-rules : s .rules < 1024 → room ≡ true
+  few-rules h =
+      or-right (not (isRuleKind (new .kind))) (ltb (length (rulesOf earlier)) 1024)
+      (lt-ltb (length (rulesOf earlier)) 1024 (omega (arith, rules-so-far)))
 
-      is-side : isSaid (take (bodyLength (getD input (s .at) 0)) (drop (s .at) input)) earlier ≡ hasSide (rulesOf earlier) (side (ruleOf new))
-      is-side = side-said input f (s .at) whole-record rule
+  pub no-rule : getD input (s .at) 0 ≡ 19 → room ≡ true
+  no-rule e = rw (ap isRuleKind e) refl
 
-      -- 4: its kind and left side are an earlier rule's
-      pub rule-twice : isSaid (take (bodyLength (getD input (s .at) 0)) (drop (s .at) input)) earlier ≡ true → refused 4 ≡ queryStep input f (s .at)
-      rule-twice e = sym (fit input f (s .at) fitting ∙ rw (rule, few-rules, sym is-side ∙ e) refl)
+  -- ---- the table of what is said before
+  pub whole-at : WholeAt input f (s .at)
+  whole-at = record { few-places = k .few-places; few-states = k .few-states; inside = whole-record }
 
-      -- a rule that is new
-      pub rule-next : (next : ℕ) → next ≡ after input (s .at)
-          → isSaid (take (bodyLength (getD input (s .at) 0)) (drop (s .at) input)) earlier ≡ false
-          → answer (record { at = next; rules = s .rules + 1 }) ≡ queryStep input f (s .at)
-      rule-next next a e =
-          ap answer (next-state next (s .rules + 1) a (rw rule refl))
-          ∙ sym (fit input f (s .at) fitting ∙ rw (rule, few-rules, sym is-side ∙ e) refl)
+  module _ (said : List ℕ) (t : TableOf f earlier said) (key : ℕ) (its-key : key ≡ keyOf f new) where
+    -- it has room for the record's key
+    pub key-inside : key < 64 * length said
+    key-inside = omega (arith, its-key, key-below f (k .few-states) new fitting, t .room)
 
-  -- an accepting state
-  module _ (accepts : getD input (s .at) 0 ≡ 19) where
-    no-rule : isRuleKind (getD input (s .at) 0) ≡ false
-    no-rule = ap isRuleKind accepts
+    -- which is looked up, and put in
+    module _ (there : Bool) (said′ : List ℕ) (says : SaysKey said key there said′) where
+      is-new : isNew (queryWith f earlier) new ≡ not there
+      is-new =
+          new-key f (k .few-states) earlier new (t .fitting) fitting
+          ∙ ap not (sym (says .told ∙ ap (hasKey said) its-key ∙ t .keys (keyOf f new)))
 
-    its-state : number new 0 ≡ getD input (s .at + 1) 0
-    its-state = number-byte input (s .at) 19 0 (s .at + 1) accepts (omega arith) (omega arith)
+      -- 4: it is there
+      pub said-twice : room ≡ true → there ≡ true → refused 4 ≡ queryStep input f (s .at)
+      said-twice free e = sym (decided input f (s .at) true false fitting free (is-new ∙ ap not e))
 
-    -- 4: the state is accepted already
-    pub state-twice : has (acceptingOf earlier) (getD input (s .at + 1) 0) ≡ true → refused 4 ≡ queryStep input f (s .at)
-    state-twice e = sym (fit input f (s .at) fitting ∙ rw (no-rule, its-state, e) refl)
+      -- it is new
+      pub said-first : (next n : ℕ) → next ≡ after input (s .at) → n ≡ s .rules + length (rulesOf (new ∷ [])) → room ≡ true → there ≡ false
+          → answer (record { at = next; rules = n }) ≡ queryStep input f (s .at)
+      said-first next n a b free e =
+          ap answer (next-state next n a b) ∙ sym (decided input f (s .at) true true fitting free (is-new ∙ ap not e))
 
-    -- a state that is new
-    pub state-next : (next : ℕ) → next ≡ after input (s .at) → has (acceptingOf earlier) (getD input (s .at + 1) 0) ≡ false
-        → answer (record { at = next; rules = s .rules }) ≡ queryStep input f (s .at)
-    state-next next a e =
-        ap answer (next-state next (s .rules) a (rw no-rule (omega arith)))
-        ∙ sym (fit input f (s .at) fitting ∙ rw (no-rule, its-state, e) refl)
+      -- and the table has it
+      pub table-next : length said′ ≡ length said → (next : ℕ) → next ≡ after input (s .at) → TableOf f (recordsBetween input (f .rules) next) said′
+      table-next long next a =
+          subst (λ records. TableOf f records said′)
+          (sym (ap (recordsBetween input (f .rules)) a ∙ between-more input (f .rules) (s .at) (k .before) whole-record)) (record {
+            room = omega (arith, t .room, long);
+            fitting = λ x m. ⊎-elim (t .fitting x) (λ n. ap (fits f) (only n) ∙ fitting) (List·Memᴰ·append-cases earlier m);
+            keys = λ j.
+                says .adds j ∙ (λ i. eqb (its-key i) j || t .keys j i) ∙ or-comm (eqb (keyOf f new) j) (has (map (keyOf f) earlier) j)
+                ∙ sym (has-more f earlier new j);
+          })

@@ -1,6 +1,6 @@
 -- Kinds with numbers that are said again. First one record against them, number by number, then all records from a position on,
--- then what is found: an accepting state, or a rule with its kind and left side.
-use mathlib.Core.Bool.{Bool, _&&_, _||_, cond, false, true}
+-- then what is found: an accepting state.
+use mathlib.Core.Bool.{Bool, _&&_, _||_, and-true, cond, false, true}
 use mathlib.Core.List.{List, [], _∷_}
 use mathlib.Core.Logic.{⊎-elim}
 use mathlib.Core.Path.{_∙_, _≡_, ap, refl, sym}
@@ -12,17 +12,12 @@ use lib.Dec.{eqb, ltb}
 use lib.ListN.{drop, drop-of-length-le, getD, length}
 use lib.Seq.{drop-cons}
 use Rattle.paper.specs.Lists.{has}
-use Rattle.paper.specs.Query.{acceptingOf, branchRule, leafRule, rulesOf}
-use Rattle.paper.specs.Refusals.{hasSide}
+use Rattle.paper.specs.Query.{acceptingOf}
 use Rattle.paper.specs.Stream.{StreamRecord, bodyLength, number, recordsOf}
 use Rattle.laws.proofs.Lists.{which}
 use Rattle.stream.specs.OneRecord.{isSaid, saysFrom}
 use Rattle.stream.specs.Positions.{after, recordAt}
 use Rattle.stream.proofs.Positions.{records-here, records-none, word-here}
-
-and-true : (b : Bool) → b && true ≡ b
-and-true true = refl
-and-true false = refl
 
 -- ---- one record: the numbers before index i agree
 pub record SaidSoFar (input : List ℕ) (at : ℕ) (words : List ℕ) (i : ℕ) : Type 0 where
@@ -87,7 +82,6 @@ module _ (words : List ℕ) (input : List ℕ) (at : ℕ) where
   said-never h = rw (records-none input at h) refl
 
 -- ---- what is found
--- an accepting state
 pub state-said : (records : List StreamRecord) (q : ℕ) → isSaid (19 ∷ q ∷ []) records ≡ has (acceptingOf records) q
 state-said [] q = refl
 state-said (r ∷ rs) q = go (eqb (r .kind) 19) (state-said rs q)
@@ -96,36 +90,3 @@ state-said (r ∷ rs) q = go (eqb (r .kind) 19) (state-said rs q)
         → (c && (eqb (number r 0) q && true)) || isSaid (19 ∷ q ∷ []) rs ≡ has (cond c (number r 0 ∷ acceptingOf rs) (acceptingOf rs)) q
     go true ih = rw (and-true (eqb (number r 0) q), ih) refl
     go false ih = ih
-
--- the kind and left side of a leaf rule
-pub leaf-said : (records : List StreamRecord) (a b : ℕ) → isSaid (17 ∷ a ∷ b ∷ []) records ≡ hasSide (rulesOf records) (17 ∷ a ∷ b ∷ [])
-leaf-said [] a b = refl
-leaf-said (r ∷ rs) a b = go (eqb (r .kind) 17) (eqb (r .kind) 18) (leaf-said rs a b)
-  where
-    go : (c d : Bool) → isSaid (17 ∷ a ∷ b ∷ []) rs ≡ hasSide (rulesOf rs) (17 ∷ a ∷ b ∷ [])
-        → (c && (eqb (number r 0) a && (eqb (number r 1) b && true))) || isSaid (17 ∷ a ∷ b ∷ []) rs
-        ≡ hasSide (cond (c || d) (cond c (leafRule (number r 0) (number r 1) (number r 2))
-        (branchRule (number r 0) (number r 1) (number r 2) (number r 3) (number r 4)) ∷ rulesOf rs) (rulesOf rs)) (17 ∷ a ∷ b ∷ [])
-    go true d ih = ap (λ z. (eqb (number r 0) a && (eqb (number r 1) b && true)) || z) ih
-    go false true ih = ih
-    go false false ih = ih
-
--- and of a branch rule
-pub branch-said : (records : List StreamRecord) (a b p q : ℕ)
-    → isSaid (18 ∷ a ∷ b ∷ p ∷ q ∷ []) records ≡ hasSide (rulesOf records) (18 ∷ a ∷ b ∷ p ∷ q ∷ [])
-branch-said [] a b p q = refl
-branch-said (r ∷ rs) a b p q = go (eqb (r .kind) 17) (eqb (r .kind) 18) (λ e. ap (λ k. eqb k 18) (eqb-true (r .kind) 17 e)) (branch-said rs a b p q)
-  where
-    words : List ℕ
-    words = 18 ∷ a ∷ b ∷ p ∷ q ∷ []
-
-    numbers : Bool
-    numbers = eqb (number r 0) a && (eqb (number r 1) b && (eqb (number r 2) p && (eqb (number r 3) q && true)))
-
-    go : (c d : Bool) → (c ≡ true → d ≡ false) → isSaid words rs ≡ hasSide (rulesOf rs) words
-        → (d && numbers) || isSaid words rs
-        ≡ hasSide (cond (c || d) (cond c (leafRule (number r 0) (number r 1) (number r 2))
-        (branchRule (number r 0) (number r 1) (number r 2) (number r 3) (number r 4)) ∷ rulesOf rs) (rulesOf rs)) words
-    go true d one ih = rw (one refl) ih
-    go false true one ih = ap (λ z. numbers || z) ih
-    go false false one ih = ih

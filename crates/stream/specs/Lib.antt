@@ -1,4 +1,5 @@
 pub mod Positions
 pub mod Reading
 pub mod OneRecord
+pub mod Keys
 pub mod RuleLists

@@ -1,5 +1,5 @@
 -- One record of the tree, or of the query, after those before it: the state that a loop carries, and what one step answers.
--- Last the search for a left side, or an accepting state, that is said again.
+-- Last the search for a record that begins with given bytes.
 use mathlib.Core.Bool.{Bool, true, false, _&&_, _||_}
 use mathlib.Core.List.{List, [], _∷_}
 use mathlib.Core.Path.{_≡_}
@@ -71,6 +71,12 @@ pub record AtKind (input : List ℕ) (f : QueryFacts) (at k : ℕ) : Type 0 wher
   pub here : at < length input
   pub kind : getD input at 0 ≡ k
 
+-- the numbers of a head that was read are in range, and the records behind it begin in the input or at its end
+pub record BehindHead (input : List ℕ) (f : QueryFacts) : Type 0 where
+  pub few-places : f .arity ≤ 4
+  pub few-states : f .states ≤ 16
+  pub inside : f .rules ≤ length input
+
 -- the state after the records up to a position
 abbrev pub queryUpTo : List ℕ → QueryFacts → ℕ → QueryState
 queryUpTo input f to = record { at = to; rules = length (rulesOf (recordsBetween input (f .rules) to)) }
@@ -78,6 +84,7 @@ queryUpTo input f to = record { at = to; rules = length (rulesOf (recordsBetween
 -- whole records behind the head up to another one, and the state that they make
 pub record AtLaterRecord (input : List ℕ) (f : QueryFacts) (s : QueryState) : Type 0 where
   pub few-places : f .arity ≤ 4
+  pub few-states : f .states ≤ 16
   pub before : WholeBetween input (f .rules) (s .at)
   pub state : s ≡ queryUpTo input f (s .at)
   pub here : s .at < length input
@@ -95,7 +102,7 @@ saysQueryStep (QueryStepIs.Refused r) = refused (numberOf r)
 abbrev pub laterReply : List ℕ → QueryFacts → Reply QueryFacts
 laterReply input f = unless (atEach (λ before r. laterTests (queryWith f before) r) [] (recordsOf (drop (f .rules) input))) f
 
--- ---- said again
+-- ---- what is said
 -- from index i on, the record's kind and then its numbers are these
 abbrev pub saysFrom : ℕ → List ℕ → StreamRecord → Bool
 saysFrom i [] r = true

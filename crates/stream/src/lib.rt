@@ -3,6 +3,7 @@
 // (specs/Positions.antt). What is answered for one record in between stands in specs/OneRecord.antt.
 mod fits; // whether a record behind the query's head is whole and in range
 mod head; // the query's head
+mod keys; // what the query's records say once, as a table of bits
 mod lengths; // the length of a body, by its kind
 mod lists; // the rules of each symbol, listed
 mod query; // the records behind the head, and all of the query

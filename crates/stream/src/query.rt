@@ -2,26 +2,31 @@
 // behind the head carries, then one such record by its kind, then all of them, then the query with
 // its head.
 ghost use mathlib.Core.Bool.{true};
+ghost use mathlib.Core.List.{[]};
 ghost use mathlib.Core.Path.{_≡_};
-ghost use Prim.Native.Nat.{_≤_};
-ghost use lib.ListN.{length, getD};
+ghost use Prim.Native.Nat.{_*_, _≤_};
+ghost use lib.ListN.{getD};
 ghost use Rattle.paper.specs.Query.{isRuleKind};
-ghost use Rattle.stream.specs.OneRecord.{fits, AtLaterRecord, queryStep, saysQueryStep, laterReply};
-ghost use Rattle.stream.specs.Positions.{recordAt};
+ghost use Rattle.stream.specs.OneRecord.{BehindHead, fits, AtLaterRecord, queryStep, saysQueryStep, laterReply};
+ghost use Rattle.stream.specs.Keys.{TableOf, TableAfter, keysOf};
+ghost use Rattle.stream.specs.Positions.{recordAt, recordsBetween};
 ghost use Rattle.stream.specs.Reading.{saysQuery, queryReply};
 use crate::fits::record_fits;
 use crate::head::QueryFacts;
 use crate::head::QueryRead;
 use crate::head::query_head;
+use crate::keys::WORD_BITS;
+use crate::keys::number_of_keys;
+use crate::keys::rule_key;
+use crate::keys::say;
+use crate::keys::state_key;
 use crate::lengths::body_length;
-use crate::said::is_accepting;
-use crate::said::is_said;
 use paper::Refusal;
 use paper::kinds::ACCEPTING_STATE;
 use paper::limits::MOST_RULES;
 
-// What the records behind the head up to a position make: so many rules. What they say is looked up
-// in the input where it is asked.
+// What the records behind the head up to a position make: so many rules. What they say is in a table
+// beside it.
 struct QueryState {
     at: usize,
     rules: usize,
@@ -34,38 +39,40 @@ enum QueryStep {
 
 // A rule that fits: one too many is refused 3, one whose kind and left side an earlier one has is
 // refused 4.
-fn rule_record(input: &[u8], facts: QueryFacts, state: QueryState) -> QueryStep
+fn rule_record(input: &[u8], facts: QueryFacts, state: QueryState, said: &mut [u64]) -> QueryStep
     requires { ⌜ AtLaterRecord (now input) facts state ⌝ }
     requires { ⌜ fits facts (recordAt (now input) (state .at)) ≡ true ⌝ }
     requires { ⌜ isRuleKind (getD (now input) (state .at) 0) ≡ true ⌝ }
+    requires { ⌜ TableOf facts (recordsBetween (now input) (facts .rules) (state .at)) (now said) ⌝ }
     ensures { λ r. ⌜ saysQueryStep r ≡ queryStep (now (input .entry)) facts (state .at) ⌝ }
+    ensures { λ r. ⌜ TableAfter (now (input .entry)) facts r (now (said .exit)) ⌝ }
 {
     if MOST_RULES <= state.rules {
         return QueryStep::Refused(Refusal::Query);
     }
-    // The state that a rule names is the last byte of its body, so its bytes up to there are its
-    // kind and left side. The input is cut at the record: a rule is not held against itself or
-    // against later ones.
     let at = state.at;
-    let named = at + body_length(input[at]);
-    if is_said(&input[..at], facts.rules, &input[at..named]) {
+    let key = rule_key(input, facts, at);
+    if say(&mut *said, key) {
         return QueryStep::Refused(Refusal::Twice);
     }
     QueryStep::Next(QueryState {
-        at: named + 1,
+        at: at + 1 + body_length(input[at]),
         rules: state.rules + 1,
     })
 }
 
 // An accepting state that fits: one that is accepted already is refused 4.
-fn state_record(input: &[u8], facts: QueryFacts, state: QueryState) -> QueryStep
+fn state_record(input: &[u8], facts: QueryFacts, state: QueryState, said: &mut [u64]) -> QueryStep
     requires { ⌜ AtLaterRecord (now input) facts state ⌝ }
     requires { ⌜ fits facts (recordAt (now input) (state .at)) ≡ true ⌝ }
     requires { ⌜ getD (now input) (state .at) 0 ≡ 19 ⌝ }
+    requires { ⌜ TableOf facts (recordsBetween (now input) (facts .rules) (state .at)) (now said) ⌝ }
     ensures { λ r. ⌜ saysQueryStep r ≡ queryStep (now (input .entry)) facts (state .at) ⌝ }
+    ensures { λ r. ⌜ TableAfter (now (input .entry)) facts r (now (said .exit)) ⌝ }
 {
     let at = state.at;
-    if is_accepting(&input[..at], facts.rules, input[at + 1]) {
+    let key = state_key(input, facts, at);
+    if say(&mut *said, key) {
         return QueryStep::Refused(Refusal::Twice);
     }
     QueryStep::Next(QueryState {
@@ -76,9 +83,11 @@ fn state_record(input: &[u8], facts: QueryFacts, state: QueryState) -> QueryStep
 
 // One more record behind the head. 3 before 4: whether it fits is asked before what the earlier
 // ones say.
-fn query_record(input: &[u8], facts: QueryFacts, state: QueryState) -> QueryStep
+fn query_record(input: &[u8], facts: QueryFacts, state: QueryState, said: &mut [u64]) -> QueryStep
     requires { ⌜ AtLaterRecord (now input) facts state ⌝ }
+    requires { ⌜ TableOf facts (recordsBetween (now input) (facts .rules) (state .at)) (now said) ⌝ }
     ensures { λ r. ⌜ saysQueryStep r ≡ queryStep (now (input .entry)) facts (state .at) ⌝ }
+    ensures { λ r. ⌜ TableAfter (now (input .entry)) facts r (now (said .exit)) ⌝ }
 {
     let at = state.at;
     if !record_fits(input, facts, at) {
@@ -86,16 +95,16 @@ fn query_record(input: &[u8], facts: QueryFacts, state: QueryState) -> QueryStep
     }
     // What fits and is no accepting state is a rule of either kind.
     if input[at] == ACCEPTING_STATE {
-        return state_record(input, facts, state);
+        return state_record(input, facts, state, &mut *said);
     }
-    rule_record(input, facts, state)
+    rule_record(input, facts, state, &mut *said)
 }
 
-// All records behind the head. There may be none: a query with no rule, or with no accepting state,
-// gives the empty set.
-fn later_records(input: &[u8], facts: QueryFacts) -> QueryRead
-    requires { ⌜ facts .arity ≤ 4 ⌝ }
-    requires { ⌜ facts .rules ≤ length (now input) ⌝ }
+// All records behind the head, with a table that has no key yet. There may be none: a query with no
+// rule, or with no accepting state, gives the empty set.
+fn each_record(input: &[u8], facts: QueryFacts, said: &mut [u64]) -> QueryRead
+    requires { ⌜ BehindHead (now input) facts ⌝ }
+    requires { ⌜ TableOf facts [] (now said) ⌝ }
     ensures { λ r. ⌜ saysQuery r ≡ laterReply (now (input .entry)) facts ⌝ }
 {
     let mut state = QueryState {
@@ -105,7 +114,7 @@ fn later_records(input: &[u8], facts: QueryFacts) -> QueryRead
     // Ends with the input, or by the first record at fault. A turn steps over one record that is
     // whole, so never behind the end.
     while state.at < input.len() {
-        match query_record(input, facts, state) {
+        match query_record(input, facts, state, &mut *said) {
             QueryStep::Next(next) => {
                 state = next;
             }
@@ -115,6 +124,57 @@ fn later_records(input: &[u8], facts: QueryFacts) -> QueryRead
         }
     }
     QueryRead::Query(facts)
+}
+
+// The words of three tables. A table is cleared whole where it is made, and that is not to be felt by
+// a small query: so it is the least of the three that has a bit for each key.
+// Arity 2 with 4 states, most queries: 4,368 keys.
+const SMALL_TABLE: usize = 128;
+// Arity 2 with 16 states: 65,808 keys.
+const MIDDLE_TABLE: usize = 1040;
+// Arity 4 with 16 states, the largest: 263,184 keys.
+const LARGE_TABLE: usize = 4113;
+
+fn with_small_table(input: &[u8], facts: QueryFacts) -> QueryRead
+    requires { ⌜ BehindHead (now input) facts ⌝ }
+    requires { ⌜ keysOf facts ≤ 64 * 128 ⌝ }
+    ensures { λ r. ⌜ saysQuery r ≡ laterReply (now (input .entry)) facts ⌝ }
+{
+    let mut said: [u64; SMALL_TABLE] = [0; SMALL_TABLE];
+    each_record(input, facts, &mut said)
+}
+
+fn with_middle_table(input: &[u8], facts: QueryFacts) -> QueryRead
+    requires { ⌜ BehindHead (now input) facts ⌝ }
+    requires { ⌜ keysOf facts ≤ 64 * 1040 ⌝ }
+    ensures { λ r. ⌜ saysQuery r ≡ laterReply (now (input .entry)) facts ⌝ }
+{
+    let mut said: [u64; MIDDLE_TABLE] = [0; MIDDLE_TABLE];
+    each_record(input, facts, &mut said)
+}
+
+fn with_large_table(input: &[u8], facts: QueryFacts) -> QueryRead
+    requires { ⌜ BehindHead (now input) facts ⌝ }
+    requires { ⌜ keysOf facts ≤ 64 * 4113 ⌝ }
+    ensures { λ r. ⌜ saysQuery r ≡ laterReply (now (input .entry)) facts ⌝ }
+{
+    let mut said: [u64; LARGE_TABLE] = [0; LARGE_TABLE];
+    each_record(input, facts, &mut said)
+}
+
+// All records behind the head, with the least table that does.
+fn later_records(input: &[u8], facts: QueryFacts) -> QueryRead
+    requires { ⌜ BehindHead (now input) facts ⌝ }
+    ensures { λ r. ⌜ saysQuery r ≡ laterReply (now (input .entry)) facts ⌝ }
+{
+    let keys = number_of_keys(facts);
+    if keys <= WORD_BITS * SMALL_TABLE {
+        return with_small_table(input, facts);
+    }
+    if keys <= WORD_BITS * MIDDLE_TABLE {
+        return with_middle_table(input, facts);
+    }
+    with_large_table(input, facts)
 }
 
 // All of the query whose head stands at a position: refusals 3 and 4.

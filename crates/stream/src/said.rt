@@ -12,9 +12,8 @@ use crate::record::says;
 use paper::kinds::ACCEPTING_STATE;
 
 // Whether a record at or behind a position begins with these bytes. The records are gone through
-// each time, as reading has no buffer to keep what it has met. There are at most 1,024 rules and 16
-// accepting states; with hundreds of rules this is a good part of a build's time (docs/PERFORMANCE.md).
-pub(crate) fn is_said(input: &[u8], from: usize, words: &[u8]) -> bool
+// each time.
+fn is_said(input: &[u8], from: usize, words: &[u8]) -> bool
     requires { ⌜ length (now words) ≤ 1 + bodyLength (getD (now words) 0 0) ⌝ }
     ensures { λ r. ⌜ r ≡ isSaid (now (words .entry)) (recordsOf (drop from (now (input .entry)))) ⌝ }
 {

@@ -15,27 +15,34 @@ record-fits-requires c κs = search needs
 
 returns : tie.Need-returns
 returns c =
-    let a = c .before .before .before .args in
-    no-fit (a .input .now) (a .facts) (a .state .at) (sym (c .before .record-fits .ensures) ∙ not-true _ (c .if1 .taken))
+    let a = c .before .before .before .before .args in
+    (no-fit (a .input .now) (a .facts) (a .state .at) (sym (c .before .record-fits .ensures) ∙ not-true _ (c .if1 .taken)), tt)
 
 shared-slice-read-if2 : tie.Need-shared-slice-read-if2
 shared-slice-read-if2 c = search needs
 
 state-record-requires : tie.Need-state-record-requires
 state-record-requires c κs =
-    let k = c .before .before in
-    (k .before .before .before .pre, (sym (k .before .record-fits .ensures) ∙ not-false _ (k .if1 .left), c .if2 .taken))
+    let k = c .before .before .before in
+    let a = k .before .before .before .before in
+    (a .pre .0, (sym (k .before .record-fits .ensures) ∙ not-false _ (k .if1 .left), (c .before .if2 .taken, a .pre .1)))
+
+same-length : tie.Need-same-length
+same-length c = search needs
 
 returns-2 : tie.Need-returns-2
 returns-2 c = search needs
 
 rule-record-requires : tie.Need-rule-record-requires
 rule-record-requires c κs =
-    let k = c .before .before in
-    let a = k .before .before .before in
+    let k = c .before .before .before in
+    let a = k .before .before .before .before in
     let fitting : fits (a .args .facts) (recordAt (a .args .input .now) (a .args .state .at)) ≡ true =
     sym (k .before .record-fits .ensures) ∙ not-false _ (k .if1 .left) in
-    (a .pre, (fitting, rule-kind (a .args .input .now) (a .args .facts) (a .args .state .at) fitting (c .if2 .left)))
+    (a .pre .0, (fitting, (rule-kind (a .args .input .now) (a .args .facts) (a .args .state .at) fitting (c .before .if2 .left), a .pre .1)))
+
+same-length-2 : tie.Need-same-length-2
+same-length-2 c = search needs
 
 returns-3 : tie.Need-returns-3
 returns-3 c = search needs
@@ -48,6 +55,8 @@ query-record-spec =
     returns
     shared-slice-read-if2
     state-record-requires
+    same-length
     returns-2
     rule-record-requires
+    same-length-2
     returns-3)

@@ -1,0 +1,54 @@
+-- `keys::say` meets its contract: the bit of the key is looked up and put in.
+use mathlib.Core.Path.{_∙_, _≡_, refl}
+use Prim.Native.Nat.{_%_, _*_, _/_, _<_, _^_, ℕ}
+use native.Mathlib.Omega.{arith}
+use borrow.Author.Needs.{needs}
+use lib.ListN.{length}
+use lib.Pow.{shl-exact}
+use Rattle.stream.proofs.KeyTable.{key-put}
+use Rattle.stream.proofs.keys.say.Statement.{statement}
+use Rattle.stream.proofs.keys.say.Tie as tie
+
+-- of 1 shifted by the key's place in its word nothing is lost
+one : (key : ℕ) → (1 * 2 ^ (key % 64)) % 2 ^ 64 ≡ 2 ^ (key % 64)
+one key = shl-exact {a = 1} 1 (key % 64) 64 (omega arith) (omega arith) ∙ omega arith
+
+mul-old : tie.Need-mul-old
+mul-old c = search needs
+
+slice-read-old : tie.Need-slice-read-old
+slice-read-old c = search needs
+
+shl-said : tie.Need-shl-said
+shl-said c = search needs
+
+mul-said : tie.Need-mul-said
+mul-said c = search needs
+
+slice-write-said : tie.Need-slice-write-said
+slice-write-said c = search needs
+
+shr-result : tie.Need-shr-result
+shr-result c = search needs
+
+same-length : tie.Need-same-length
+same-length c = search needs
+
+returns : tie.Need-returns
+returns c =
+    let a = c .before .args in
+    let word : a .key / 64 < length (a .said .now) = omega (arith, c .before .pre) in
+    record { told = refl; adds = key-put (a .said .now) (a .key) _ word (one (a .key)) }
+
+pub say-spec : {M : Type 1} → statement M
+say-spec =
+    tie.close
+    (tie.spec
+    mul-old
+    slice-read-old
+    shl-said
+    mul-said
+    slice-write-said
+    shr-result
+    same-length
+    returns)

@@ -1,0 +1,69 @@
+-- What the records behind the head say once, as a table of bits. First a key for each accepting state and for each kind and left side of a
+-- rule, with the query's own arity and states as radices, then the bits, then what the reading of the records keeps up.
+use mathlib.Core.Bool.{Bool, _||_, cond, true}
+use mathlib.Core.List.{List, map}
+use mathlib.Core.Path.{_≡_}
+use Prim.Native.Nat.{ℕ, _+_, _*_, _/_, _%_, _^_, _≤_}
+use lib.Dec.{eqb}
+use lib.ListN.{getD, length}
+use Rattle.paper.specs.Lists.{_∈_, has}
+use Rattle.paper.specs.Stream.{StreamRecord, number}
+use Rattle.stream.specs.OneRecord.{QueryStep, fits}
+use Rattle.stream.specs.Positions.{after, recordsBetween}
+use Rattle.stream.specs.Reading.{QueryFacts}
+use Rattle.stream.specs.declared.query.QueryStep.the-variants as QueryStepIs
+
+-- ---- keys
+-- the flags of the query
+abbrev pub flagsOf : QueryFacts → ℕ
+flagsOf f = 2 ^ f .arity
+
+-- what can stand behind a rule's label and flag: nothing in a leaf rule, two states in a branch rule
+abbrev pub endsOf : QueryFacts → ℕ
+endsOf f = 1 + f .states * f .states
+
+-- the keys of the query: those of the states come first, and each is below 16
+abbrev pub keysOf : QueryFacts → ℕ
+keysOf f = 16 + 64 * flagsOf f * endsOf f
+
+-- the key of a rule, by its label, its flag and what stands behind them
+abbrev pub sideKey : QueryFacts → ℕ → ℕ → ℕ → ℕ
+sideKey f label flag end = 16 + ((label * flagsOf f + flag) * endsOf f + end)
+
+-- and of two states behind them
+abbrev pub pairEnd : QueryFacts → ℕ → ℕ → ℕ
+pairEnd f left right = 1 + (left * f .states + right)
+
+-- the key of a record: an accepting state, a leaf rule or a branch rule
+abbrev pub keyOf : QueryFacts → StreamRecord → ℕ
+keyOf f r =
+    cond (eqb (r .kind) 19) (number r 0)
+    (sideKey f (number r 0) (number r 1) (cond (eqb (r .kind) 17) 0 (pairEnd f (number r 2) (number r 3))))
+
+-- ---- bits
+-- the table has the key: 64 keys to a word, the lowest bit first
+abbrev pub hasKey : List ℕ → ℕ → Bool
+hasKey said key = eqb (getD said (key / 64) 0 / 2 ^ (key % 64) % 2) 1
+
+-- a key is looked up, and put in
+pub record SaysKey (said : List ℕ) (key : ℕ) (there : Bool) (said′ : List ℕ) : Type 0 where
+  pub told : there ≡ hasKey said key
+  pub adds : (k : ℕ) → hasKey said′ k ≡ eqb key k || hasKey said k
+
+-- ---- what the reading keeps up
+-- the table has the keys of these records and no other. It has room for all keys, and the records fit
+pub record TableOf (f : QueryFacts) (records : List StreamRecord) (said : List ℕ) : Type 0 where
+  pub room : keysOf f ≤ 64 * length said
+  pub fitting : (r : StreamRecord) → r ∈ records → fits f r ≡ true
+  pub keys : (k : ℕ) → hasKey said k ≡ has (map (keyOf f) records) k
+
+-- where the reading goes on, the table has the keys of the records up to there
+abbrev pub TableAfter : List ℕ → QueryFacts → QueryStep → List ℕ → Type 0
+TableAfter input f (QueryStepIs.Next s) said = TableOf f (recordsBetween input (f .rules) (s .at)) said
+TableAfter input f (QueryStepIs.Refused why) said = Unit {0}
+
+-- a whole record stands at the position, behind a head whose numbers are in range
+pub record WholeAt (input : List ℕ) (f : QueryFacts) (at : ℕ) : Type 0 where
+  pub few-places : f .arity ≤ 4
+  pub few-states : f .states ≤ 16
+  pub inside : after input at ≤ length input
