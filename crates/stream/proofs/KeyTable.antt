@@ -1,5 +1,5 @@
 -- The table of keys as words of bits: a key that is put in is there, and no other comes or goes; a new table has none.
-use mathlib.Core.Bool.{_||_, false, or-false, or-true, true}
+use mathlib.Core.Bool.{_||_, false, true}
 use mathlib.Core.List.{List, List·Memᴰ·not-nil, []}
 use mathlib.Core.Logic.{_⊎_, inl, inr, ⊎-elim}
 use mathlib.Core.Path.{_∙_, _≡_, ap, sym}

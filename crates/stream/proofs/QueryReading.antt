@@ -8,7 +8,7 @@ use Prim.Native.Nat.{_+_, _<_, _≤_, ℕ}
 use native.Mathlib.Omega.{arith}
 use borrow.Author.Tests.{eqb-true, leb-true, ltb-false, ltb-true}
 use lib.Dec.{leb, ltb}
-use lib.ListN.{drop, getD, length, take}
+use lib.ListN.{drop, getD, length}
 use lib.Seq.{slice-empty}
 use Rattle.paper.specs.Query.{acceptingOf, queryOf, rulesOf}
 use Rattle.paper.specs.Refusals.{Test, answer, atEach, headTests, laterTests, queryEndTests, queryPart, queryTests, refused, unless}

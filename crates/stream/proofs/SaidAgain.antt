@@ -7,7 +7,7 @@ use mathlib.Core.Path.{_∙_, _≡_, ap, refl, sym}
 use Prim.Native.Nat.{_+_, _<_, _≤_, suc, ℕ}
 use native.Mathlib.Numerals.{add-one}
 use native.Mathlib.Omega.{arith}
-use borrow.Author.Tests.{eq-eqb, eqb-true, ltb-false, ltb-true, ne-eqb}
+use borrow.Author.Tests.{eq-eqb, ltb-false, ltb-true, ne-eqb}
 use lib.Dec.{eqb, ltb}
 use lib.ListN.{drop, drop-of-length-le, getD, length}
 use lib.Seq.{drop-cons}

@@ -1,5 +1,4 @@
 -- `keys::ends` meets its contract: at most 16 states make at most 256 pairs.
-use Prim.Native.Nat.{_*_, _≤_}
 use native.Mathlib.Nat.{mul-le-mul}
 use native.Mathlib.Omega.{arith}
 use Rattle.stream.proofs.keys.ends.Statement.{statement}

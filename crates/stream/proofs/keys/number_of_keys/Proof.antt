@@ -1,6 +1,5 @@
 -- `keys::number_of_keys` meets its contract: 64 labels, at most 16 flags and at most 257 ends make at most 263,168 keys of rules.
-use mathlib.Core.Path.{_∙_, _≡_, ap}
-use Prim.Native.Nat.{_*_, _+_, _≤_}
+use Prim.Native.Nat.{_*_, _≤_}
 use native.Mathlib.Nat.{mul-le-mul}
 use native.Mathlib.Omega.{arith}
 use borrow.Author.Needs.{needs}

@@ -1,13 +1,8 @@
 -- `keys::rule_key` meets its contract: the digits are bytes of the rule, and the products are small.
-use mathlib.Core.List.{List}
-use mathlib.Core.Path.{_≡_}
-use Prim.Native.Nat.{_*_, _+_, _≤_, ℕ}
+use Prim.Native.Nat.{_*_, _+_, _≤_}
 use native.Mathlib.Nat.{mul-le-mul}
 use native.Mathlib.Omega.{arith}
 use borrow.Author.Needs.{needs}
-use lib.ListN.{getD, length}
-use Rattle.stream.specs.Keys.{WholeAt}
-use Rattle.stream.specs.Reading.{QueryFacts}
 use Rattle.stream.proofs.KeyBytes.{branch-bytes, branch-long, leaf-bytes, rule-long}
 use Rattle.stream.proofs.keys.rule_key.Statement.{statement}
 use Rattle.stream.proofs.keys.rule_key.Tie as tie
