@@ -303,16 +303,16 @@ module _ (input : List ℕ) (from size at : ℕ) (lists last : List ℕ) (k : Go
       }
 
       -- or is one
-      pub goes-on : Room input from size → x < symbols → (lists′ last′ : List ℕ)
-          → lists′ ≡ set (set lists (getD last x 0) at) (cellOf from at) (getD lists (getD last x 0) 0) → last′ ≡ set last x (cellOf from at)
+      pub goes-on : Room input from size → x < symbols → (cell : ℕ) (lists′ last′ : List ℕ) → cell ≡ cellOf from at
+          → lists′ ≡ set (set lists (getD last x 0) at) cell (getD lists (getD last x 0) 0) → last′ ≡ set last x cell
           → Going input from size to lists′ last′
-      goes-on r low lists′ last′ e f = record {
+      goes-on r low cell lists′ last′ c e f = record {
         n = suc (k .n);
         here = next-place;
-        sized = rw e (length-set (set lists (getD last x 0) at) (cellOf from at) _ ∙ length-set lists (getD last x 0) at ∙ k .sized);
-        long = rw f (length-set last x (cellOf from at) ∙ k .long);
+        sized = rw e (length-set (set lists (getD last x 0) at) cell _ ∙ length-set lists (getD last x 0) at ∙ k .sized);
+        long = rw f (length-set last x cell ∙ k .long);
         linked =
-            rw (e, f, k .here)
+            rw (e, f, c, k .here)
             (linked-more input from (k .n) lists last (k .linked) reached x low its-symbol (k .long)
             (subst (λ p. cellOf from p < length lists) (k .here) (cell-room r)));
       }

@@ -5,7 +5,7 @@ ghost use mathlib.Core.Path.{_≡_};
 ghost use Prim.Native.Nat.{ℕ, _+_, _*_, _-_, _≤_, _<_};
 ghost use lib.ListN.{length, getD, set};
 ghost use Rattle.laws.specs.StreamCauses.{RuleKind};
-ghost use Rattle.stream.specs.RuleLists.{symbols, symbol, SymbolAt, firstCell, Room, RuleLists, AddsState, TellsFirst, TellsNext, TellsAccepting};
+ghost use Rattle.stream.specs.RuleLists.{symbols, symbol, SymbolAt, firstCell, cellOf, Room, RuleLists, AddsState, TellsFirst, TellsNext, TellsAccepting};
 use crate::lengths::body_length;
 use crate::record::byte_at;
 use paper::kinds::ACCEPTING_STATE;
@@ -21,25 +21,25 @@ const LABELS: usize = HIGHEST_LABEL as usize + 1;
 // A symbol for each label of the leaf rules, then for each of the branch rules.
 const SYMBOLS: usize = 2 * LABELS;
 
-// Behind the symbols' numbers stands that of the accepting states, a bit for each, and behind it the
-// cells of the rules begin.
+// Behind the symbols' numbers stands that of the accepting states, a bit for each.
 const ACCEPTING_CELL: usize = SYMBOLS;
 
+// And behind it the cells of the rules begin.
 const FIRST_CELL: usize = ACCEPTING_CELL + 1;
 
-// The bytes of a record with its kind: a leaf rule has the fewest of a rule, a branch rule the most.
+// The bytes of a leaf rule: no rule has fewer.
 const SHORTEST_RULE: usize = 4;
 
+// The bytes of a branch rule: no rule has more.
 const LONGEST_RULE: usize = 6;
 
+// The bytes of an accepting state.
 const STATE_RECORD: usize = 2;
 
 // A query that is read has at most so many bytes behind its head, as it says no accepting state twice.
 const MOST_BYTES: usize = MOST_RULES * LONGEST_RULE + MOST_STATES * STATE_RECORD;
 
-// So long are lists that have room for the rules of any query that is read: 1,673 numbers. A rule's
-// cell is told by its position, one for each four bytes, as no rule is shorter: so no two rules share
-// a cell, and no table of rules is needed.
+// So long are lists that have room for the rules of any query that is read: 1,673 numbers.
 pub const LIST_NUMBERS: usize = FIRST_CELL + MOST_BYTES / SHORTEST_RULE;
 
 // The number of a symbol.
@@ -48,6 +48,15 @@ fn symbol_of(kind: u8, label: u8) -> usize
     ensures { λ r. ⌜ r ≡ symbol kind label ⌝ }
 {
     (kind - LEAF_RULE) as usize * LABELS + label as usize
+}
+
+// The cell of the rule at a position. There is one for as many bytes as the shortest rule has, so no
+// two rules share one, and no table of rules is needed.
+fn cell_of(from: usize, at: usize) -> usize
+    requires { ⌜ from ≤ at ⌝ }
+    ensures { λ r. ⌜ r ≡ cellOf from at ⌝ }
+{
+    FIRST_CELL + (at - from) / SHORTEST_RULE
 }
 
 // The symbol of the rule at a position; `SYMBOLS` where none stands, or one with a label that no node
@@ -124,13 +133,13 @@ pub fn list_rules(input: &[u8], from: usize, lists: &mut [u16])
     let mut last: [u16; SYMBOLS] = [0; SYMBOLS];
     let end = input.len() as u16;
     start_lists(&mut *lists, &mut last, end);
-    // Ends with the input: a turn steps over a kind at least.
     let mut accepting: u16 = 0;
+    // Ends with the input: a turn steps over a kind at least.
     let mut at = from;
     while at < input.len() {
         let symbol = symbol_at(input, at);
         if symbol < SYMBOLS {
-            let cell = FIRST_CELL + (at - from) / SHORTEST_RULE;
+            let cell = cell_of(from, at);
             add_rule(&mut *lists, &mut last, symbol, cell, at as u16);
         }
         accepting = with_state(input, at, accepting);
@@ -161,7 +170,7 @@ pub fn rule_after(lists: &[u16], from: usize, rule: usize) -> usize
     requires { ⌜ (from ≤ rule) × (rule < from + 4 * (length (now lists) - firstCell)) ⌝ }
     ensures { λ r. ⌜ TellsNext (now (lists .entry)) from rule r ⌝ }
 {
-    let cell = FIRST_CELL + (rule - from) / SHORTEST_RULE;
+    let cell = cell_of(from, rule);
     wide(lists[cell])
 }
 

@@ -52,11 +52,8 @@ loop-holds c =
 symbol-at-requires : tie.Need-symbol-at-requires Inv-loop μ-loop
 symbol-at-requires c κs = search needs
 
-sub-cell : tie.Need-sub-cell Inv-loop μ-loop
-sub-cell c = let l = c .before .before .before in going-behind _ _ _ _ _ _ (l .loop .inv .0)
-
-add-cell : tie.Need-add-cell Inv-loop μ-loop
-add-cell c = search needs
+cell-of-requires : tie.Need-cell-of-requires Inv-loop μ-loop
+cell-of-requires c κs = let l = c .before .before .before in going-behind _ _ _ _ _ _ (l .loop .inv .0)
 
 slice-aggregate-add-rule : tie.Need-slice-aggregate-add-rule Inv-loop μ-loop
 slice-aggregate-add-rule c = search needs
@@ -66,17 +63,19 @@ cast-add-rule c = search needs
 
 add-rule-requires : tie.Need-add-rule-requires Inv-loop μ-loop
 add-rule-requires c κs =
-    let p = c .before .before in
-    let l = p .before .before .before in (
+    let cell = c .before .before .cell-of .ensures in
+    let p = c .before .before .before in
+    let l = p .before .before .before in
+    let fits = cell-room _ _ _ _ _ _ (l .loop .inv .0) (p .before .before .loop-test .taken) (room l) in (
       (
         omega (arith, p .if1 .taken, l .loop .inv .0 .long),
         omega (
           arith,
           last-before _ _ _ _ _ _ (l .loop .inv .0) (p .before .before .loop-test .taken) (p .before .symbol-at .result) (p .if1 .taken),
-          cell-room _ _ _ _ _ _ (l .loop .inv .0) (p .before .before .loop-test .taken) (room l),
+          fits,
         ),
       ),
-      (cell-room _ _ _ _ _ _ (l .loop .inv .0) (p .before .before .loop-test .taken) (room l), omega (arith, pre l)),
+      (omega (arith, cell, fits), omega (arith, cell, p .before .before .loop-test .taken, pre l)),
     )
 
 with-state-requires : tie.Need-with-state-requires Inv-loop μ-loop
@@ -108,8 +107,8 @@ loop-again c =
     let past = ap (λ n. l .loop .at + 1 + n) (c .body-length .ensures) in (
       ⊎-elim
           (λ w.
-          goes-on _ _ _ _ _ _ (l .loop .inv .0) (k .loop-test .taken) _ _ (j .before .symbol-at .ensures) past (room l) (w .0 .taken) _ _
-          (w .7 ∙ w .3 .ensures .0) (w .8 ∙ w .3 .ensures .1))
+          goes-on _ _ _ _ _ _ (l .loop .inv .0) (k .loop-test .taken) _ _ (j .before .symbol-at .ensures) past (room l) (w .0 .taken) _ _ _ (w .1 .ensures)
+          (w .8 ∙ w .4 .ensures .0) (w .9 ∙ w .4 .ensures .1))
           (λ w.
           rw (w .1, w .2) (goes-past _ _ _ _ _ _ (l .loop .inv .0) (k .loop-test .taken) _ _ (j .before .symbol-at .ensures) past (w .0 .left)))
           (j .if1 .came),
@@ -141,8 +140,7 @@ list-rules-spec =
     start-lists-requires
     loop-holds
     symbol-at-requires
-    sub-cell
-    add-cell
+    cell-of-requires
     slice-aggregate-add-rule
     cast-add-rule
     add-rule-requires
