@@ -31,9 +31,9 @@ early-work n asked work early = rw (le-leb n 5 early)
 early-table : (n : ℕ) (table : List Record) → n ≤ 5 → table ≡ tableAfter (refused n) table
 early-table n table early = rw (ne-eqb n 6 (λ e. omega (arith, e, early)))
 
-pub refused-face : (input work : List ℕ) (table : List Record) (r : Refusal) (work′ : List ℕ)
-    → Begins input work (length table) (BegunIs.Refused r) work′ → Builds input work table (Refused r) work′ table
-refused-face input work table r work′ (reply, early, same) = record {
+pub refused-face : (input work : List ℕ) (table : List Record) (r : Refusal) (work′ lists : List ℕ)
+    → Begins input work (length table) (BegunIs.Refused r) work′ lists → Builds input work table (Refused r) work′ table
+refused-face input work table r work′ lists (reply, early, same) = record {
   answer = ap (told (λ a. a .0)) (sym reply);
   worked =
       same
@@ -43,9 +43,9 @@ refused-face input work table r work′ (reply, early, same) = record {
 }
 
 -- ---- begun
-module _ (input work : List ℕ) (table : List Record) (s : State) (work₁ : List ℕ) (b : Started input work (length table) s work₁) where
-  pub ready : (batch : List ℕ) → batchNumbers ≤ length batch → Ready input table s work₁ batch
-  ready batch long = record { standing = b .standing; room = long; entries = omega (arith, b .limit) }
+module _ (input work : List ℕ) (table : List Record) (s : State) (work₁ lists : List ℕ) (b : Started input work (length table) s work₁ lists) where
+  pub ready : (batch : List ℕ) → batchNumbers ≤ length batch → Ready input lists table s work₁ batch
+  ready batch long = record { standing = b .standing; listed = b .listed; room = long; entries = omega (arith, b .limit) }
 
   module _ (e : State) (table₂ : List Record) (work₂ : List ℕ) (d : Driven input table s work₁ table₂ e work₂) (long₁ : length work₁ ≡ length work)
       (long₂ : length work₂ ≡ length work₁) where

@@ -20,6 +20,7 @@ use Rattle.table.proofs.store.Met as store-thm
 use Rattle.walks.proofs.Building.{Hand, Law, Step, Store, building-meets, turned}
 use Rattle.building.specs.Bounds.{batchNumbers}
 use Rattle.building.specs.Batch.{Record, recordsIn}
+use Rattle.building.specs.Listed.{Listed}
 use Rattle.building.specs.Standing.{State, Standing, Stopped, Stepped, IsStanding, Fills, turnsLeft}
 use Rattle.building.specs.Driving.{Ready, Driven}
 use Rattle.building.proofs.Storing.{stored-behind}
@@ -41,8 +42,9 @@ after x s w b = turned u64 shape storer from-field count-field (x .table) s w b
 
 -- ---- before each turn
 -- the records made are the table's first ones, and the building goes on from them, or has stopped with them
-record Before (input : List ℕ) (x₀ x : Held) : Type 0 where
+record Before (input lists : List ℕ) (x₀ x : Held) : Type 0 where
   made : List Record
+  listed : Listed input lists
   limit : x .state .limit ≡ x₀ .state .limit
   asked : x .state .asked ≡ x₀ .state .asked
   entries : x₀ .state .limit ≤ length (x₀ .table)
@@ -53,9 +55,10 @@ record Before (input : List ℕ) (x₀ x : Held) : Type 0 where
   fits : x .state .from + x .state .count ≤ x .state .limit
   stops : x .state .going ≡ false → Stopped input (x .state) made
 
-starts : (input : List ℕ) (x : Held) → Ready input (x .table) (x .state) (x .work) (x .batch) → Before input x x
-starts input x ready = record {
+starts : (input lists : List ℕ) (x : Held) → Ready input lists (x .table) (x .state) (x .work) (x .batch) → Before input lists x x
+starts input lists x ready = record {
   made = [];
+  listed = ready .listed;
   limit = refl;
   asked = refl;
   entries = ready .entries;
@@ -67,12 +70,13 @@ starts input x ready = record {
   stops = λ stopped. absurd (true≢false (sym (ready .standing .going) ∙ stopped));
 }
 
-onward : (input : List ℕ) (x₀ x : Held) (s : State) (w b : List ℕ) → length b ≡ length (x₀ .batch) → Before input x₀ x → x .state .going ≡ true
-    → Fills input (x .state) (x .work) s w b
-    → Before input x₀ (after x s w b) × (turnsLeft input s < turnsLeft input (x .state))
-onward input x₀ x s w b long before going told = (
+onward : (input lists : List ℕ) (x₀ x : Held) (s : State) (w b : List ℕ) → length b ≡ length (x₀ .batch) → Before input lists x₀ x
+    → x .state .going ≡ true → Fills input (x .state) (x .work) s w b
+    → Before input lists x₀ (after x s w b) × (turnsLeft input s < turnsLeft input (x .state))
+onward input lists x₀ x s w b long before going told = (
   record {
     made = before .made ++ recordsIn (s .count) b;
+    listed = before .listed;
     limit = turn .limit ∙ before .limit;
     asked = turn .asked ∙ before .asked;
     entries = before .entries;
@@ -92,9 +96,9 @@ onward input x₀ x s w b long before going told = (
     turn : Stepped input (x .state) (x .work) (before .made) s w b
     turn = told (before .made) (before .goes going) (before .fits)
 
-stops : (input : List ℕ) (x₀ x : Held) → Before input x₀ x → x .state .going ≡ false
+stops : (input lists : List ℕ) (x₀ x : Held) → Before input lists x₀ x → x .state .going ≡ false
     → Driven input (x₀ .table) (x₀ .state) (x₀ .work) (x .table) (x .state) (x .work)
-stops input x₀ x before stopped = record {
+stops input lists x₀ x before stopped = record {
   all = before .made;
   stopped = before .stops stopped;
   limit = before .limit;
@@ -104,15 +108,15 @@ stops input x₀ x before stopped = record {
 
 abbrev law : Law u64 shape storer from-field count-field
 law = record {
-  Ask = λ i s w b. IsStanding i s w × (batchNumbers ≤ length b);
+  Ask = λ i ls s w b. (IsStanding i s w × Listed i ls) × (batchNumbers ≤ length b);
   Tell = λ i s w b s′ w′ b′. Fills i s w s′ w′ b′;
-  Ready = λ i x. Ready i (x .table) (x .state) (x .work) (x .batch);
+  Ready = λ i ls x. Ready i ls (x .table) (x .state) (x .work) (x .batch);
   Built = λ i x y. Driven i (x .table) (x .state) (x .work) (y .table) (y .state) (y .work);
   Before = Before;
   falls = λ i x. turnsLeft i (x .state);
   starts = starts;
-  asks = λ i x₀ x long before going. ((before .made, before .goes going, before .fits), omega (arith, before .room, long .1 .1));
-  onward = λ i x₀ x s w b long long′ before going told. onward i x₀ x s w b (long′ .1 .1) before going told;
+  asks = λ i ls x₀ x long before going. (((before .made, before .goes going, before .fits), before .listed), omega (arith, before .room, long .1 .1));
+  onward = λ i ls x₀ x s w b long long′ before going told. onward i ls x₀ x s w b (long′ .1 .1) before going told;
   stops = stops;
 }
 
