@@ -282,7 +282,7 @@ module _ (P : RattleType) (X : Shape) (storer : Storer) (from-field count-field 
               sets ! 30 refl (rv-is (X .is (x .state)) (of-opd ! (part ! 24 refl refl (X .there)))) (tt, tt) $
               tests ! (value ! 30 refl)
               (λ h.
-              -- the work and the batch are lent to `step`
+              -- the work and the batch are lent to `step`, and the input and the lists shown
               sets ! 32 refl (elements ! 20 refl refl refl refl) (tt, tt) $
               sets ! 34 refl (agg ! (and-then ! (value ! 32 refl) (and-then ! (part ! 20 refl refl refl) (no-more !))))
               (slice-typed (work-room .0)) $
