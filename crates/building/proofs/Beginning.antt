@@ -16,12 +16,15 @@ use Rattle.laws.proofs.ReadTree.{tree-read}
 use Rattle.laws.proofs.Replies.{Passes, answered, refused-inj, refused-not-answer, unless-append}
 use Rattle.stream.specs.declared.head.QueryFacts.{QueryFacts}
 use Rattle.stream.specs.declared.tree.TreeFacts.{TreeFacts}
+use Rattle.stream.specs.RuleLists.{Room, RuleLists}
 use Rattle.stream.specs.Reading.{queryFacts, queryReply, treeFacts, treeReply}
 use Rattle.stream.proofs.AfterTree.{facts-after-tree, reply-after-tree}
+use Rattle.stream.proofs.Room.{query-room, query-short}
 use Rattle.stream.proofs.EachRecord.{refused-append}
 use Rattle.building.specs.Bounds.{mostNodes, mostPlaces, mostRecords, mostStates}
 use Rattle.building.specs.Frames.{width}
 use Rattle.building.specs.Coming.{Come, Coming}
+use Rattle.building.specs.Listed.{Listed, listNumbers}
 use Rattle.building.specs.Standing.{AtNode, InWork, State}
 use Rattle.building.specs.Start.{Started}
 use Rattle.building.proofs.Frames.{frames-at-most, work-frames}
@@ -160,6 +163,26 @@ module _ (input : List ℕ) (tree : TreeFacts) (query : QueryFacts) (f : ReadFac
       ap₂ (λ m n. (1 + m) * n) (f .most) (e ∙ ap₂ width (f .arity) (f .states))
       ∙ sym (work-frames (mostUnjoined (treeRecords (recordsOf input))) (queryIn input))
 
+  -- the lists have room for the rules, and a position fits their numbers
+  pub lists-room : {size : ℕ} → listNumbers ≤ size → (length input < 65536) × Room input (query .rules) size
+  lists-room {size} long =
+      let at : ℕ = 2 * nodesIn input in
+      let room = query-room input at (queryFacts input at) (sym (f .query-reply)) in (
+        omega (
+          arith,
+          query-short input at (queryFacts input at) (sym (f .query-reply)),
+          tree-read (treeRecords (recordsOf input)) passes .2,
+        ),
+        subst (λ n. Room input n size) (sym (f .rules)) (room size long),
+      )
+
+  pub rules-listed : {lists : List ℕ} {size : ℕ} → RuleLists input (query .rules) lists → length lists ≡ size → listNumbers ≤ size
+      → Listed input lists
+  rules-listed {lists} listed same long = record {
+    rules = subst (λ n. RuleLists input n lists) (f .rules) listed;
+    room = subst (λ n. Room input n (length lists)) (f .rules) (lists-room {size = length lists} (omega (arith, same)) .1);
+  }
+
   -- too short
   pub short-work : (work : List ℕ) (tableLength : ℕ) {n : ℕ} → n ≡ width (query .arity) (query .states) → length work < (1 + tree .most) * n
       → build input (length work) tableLength ≡ refused 5
@@ -167,30 +190,30 @@ module _ (input : List ℕ) (tree : TreeFacts) (query : QueryFacts) (f : ReadFac
       work-refused input (length work) tableLength passes (query-part-passes input (f .query-reply)) (omega (arith, asked-is e))
 
   -- the first node
-  first-node : (records : List StreamRecord) → treeRecords (recordsOf input) ≡ records
-      → (n : AtNode input 0 0 0) × (n .earlier ≡ []) × (n .stack ≡ [])
-  first-node [] e = absurd (omega (arith, tree-read (treeRecords (recordsOf input)) passes .1, ap length e))
-  first-node (r ∷ rs) e =
-      let n : AtNode input 0 0 0 = record {
+  first-node : (node at top : ℕ) → node ≡ 0 → at ≡ 0 → top ≡ 0 → (records : List StreamRecord) → treeRecords (recordsOf input) ≡ records
+      → (n : AtNode input node at top) × (n .earlier ≡ []) × (n .stack ≡ [])
+  first-node node at top number place high [] e = absurd (omega (arith, tree-read (treeRecords (recordsOf input)) passes .1, ap length e))
+  first-node node at top number place high (r ∷ rs) e =
+      let n : AtNode input node at top = record {
         before = [];
         here = r;
         behind = rs;
         records = e;
-        number = refl;
-        place = refl;
+        number = number;
+        place = place;
         earlier = [];
         stack = [];
         passed = refl;
-        high = refl;
+        high = high;
       } in
       (n, refl, refl)
 
   module _ (t : State) (work : List ℕ) (entries : ℕ) (limit : t .limit ≡ min entries mostRecords) where
     -- a state with the numbers that were read comes to it
     pub comes-first : t .going ≡ true → t .over ≡ false → t .from ≡ 0 → t .count ≡ 0 → t .nodes ≡ tree .nodes → t .rules ≡ query .rules
-        → t .arity ≡ query .arity → t .states ≡ query .states → t .asked ≡ workFor input → t .asked ≤ length work → Coming input t 0 0 0 work []
-    comes-first going over from count nodes rules arity states asked room =
-        let (n, none, empty-stack) = first-node (treeRecords (recordsOf input)) refl in
+        → t .arity ≡ query .arity → t .states ≡ query .states → t .asked ≡ workFor input → t .asked ≤ length work → t .node ≡ 0 → t .at ≡ 0 → t .top ≡ 0 → Coming input t work []
+    comes-first going over from count nodes rules arity states asked room node at top =
+        let (n, none, empty-stack) = first-node (t .node) (t .at) (t .top) node at top (treeRecords (recordsOf input)) refl in
         record {
           going = going;
           over = over;
@@ -211,9 +234,11 @@ module _ (input : List ℕ) (tree : TreeFacts) (query : QueryFacts) (f : ReadFac
           used = omega arith;
         }
 
-    pub first-started : {r : State} {work′ : List ℕ} → Come input t 0 work [] r work′ → Started input work entries r work′
-    first-started {work′ = work′} c = record {
+    pub first-started : {r : State} {work′ lists : List ℕ} → Come input t work [] r work′ → Listed input lists
+        → Started input work entries r work′ lists
+    first-started {work′ = work′} c listed = record {
       standing = c .standing;
+      listed = listed;
       limit = c .limit ∙ limit;
       rest = subst (λ n. drop n work′ ≡ drop n work) (sym (c .asked)) (c .rest);
     }

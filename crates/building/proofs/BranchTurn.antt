@@ -120,12 +120,7 @@ module _ (input : List ℕ) (t : State) (work batch : List ℕ) (base : List Rec
   bytes = branch-bytes input t work made s h branch
 
   module _ (e : Branches (branchOf input t (t .rule)) (t .count) batch work count batch′ work′)
-      (search : NextRule input (t .rule + 6) branchRuleKind (getD input (t .at + 1) 0) next) where
-    found : NextRule input (after input (t .rule)) (s .node .here .kind + ruleAbove) (number (s .node .here) 0) next
-    found =
-        let same : branchRuleKind ≡ s .node .here .kind + ruleAbove = omega (arith, kind) in
-        subst₃ (λ x y z. NextRule input x y z next) (sym (bytes .behind)) same (label-here input t (s .constants) (s .node)) search
-
+      (found : NextRule input (after input (t .rule)) (s .node .here .kind + ruleAbove) (number (s .node .here) 0) next) where
     done : Stands base (getD input (t .rule + 5) 0) (branchOf input t (t .rule)) z count batch′ work′
         × ((q b : ℕ) → (q ≡ getD input (t .rule + 5) 0 → ⊥) → z .1 q b ≡ s .slots q b)
     done =
@@ -170,5 +165,5 @@ module _ (input : List ℕ) (t : State) (work batch : List ℕ) (base : List Rec
 
   -- of the numbers that the code has
   pub branch-onward : {rule : Branch} → rule ≡ branchOf input t (t .rule) → Branches rule (t .count) batch work count batch′ work′
-      → NextRule input (t .rule + 6) branchRuleKind (getD input (t .at + 1) 0) next → Onward input t work base count next work′ batch′
+      → NextRule input (after input (t .rule)) (s .node .here .kind + ruleAbove) (number (s .node .here) 0) next → Onward input t work base count next work′ batch′
   branch-onward same e = branch-stepped (subst (λ x. Branches x (t .count) batch work count batch′ work′) same e)

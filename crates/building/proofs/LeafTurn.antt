@@ -82,12 +82,7 @@ module _ (input : List ℕ) (t : State) (work batch : List ℕ) (base : List Rec
   bytes = leaf-bytes input t work made s h leaf
 
   module _ (e : Leaves (t .node) (getD input (t .rule + 2) 0) (leafShelf input t) (t .from) (t .count) batch work count batch′ work′)
-      (search : NextRule input (t .rule + 4) leafRuleKind (getD input (t .at + 1) 0) next) where
-    found : NextRule input (after input (t .rule)) (s .node .here .kind + ruleAbove) (number (s .node .here) 0) next
-    found =
-        let same : leafRuleKind ≡ s .node .here .kind + ruleAbove = omega (arith, kind) in
-        subst₃ (λ x y z. NextRule input x y z next) (sym (bytes .behind)) same (label-here input t (s .constants) (s .node)) search
-
+      (found : NextRule input (after input (t .rule)) (s .node .here .kind + ruleAbove) (number (s .node .here) 0) next) where
     step : leafStep recordSets (number (s .node .here) 0) (t .node) (made, s .slots)
         (leafRule (number (s .node .here) 0) (number (recordAt input (t .rule)) 1) (number (recordAt input (t .rule)) 2))
         ≡ (base ++ recordsIn count batch′, slots)
@@ -125,6 +120,6 @@ module _ (input : List ℕ) (t : State) (work batch : List ℕ) (base : List Rec
   -- of the numbers that the code has
   pub leaf-onward : {to : ℕ} → to ≡ leafShelf input t
       → Leaves (t .node) (getD input (t .rule + 2) 0) to (t .from) (t .count) batch work count batch′ work′
-      → NextRule input (t .rule + 4) leafRuleKind (getD input (t .at + 1) 0) next → Onward input t work base count next work′ batch′
+      → NextRule input (after input (t .rule)) (s .node .here .kind + ruleAbove) (number (s .node .here) 0) next → Onward input t work base count next work′ batch′
   leaf-onward same e =
       leaf-stepped (subst (λ x. Leaves (t .node) (getD input (t .rule + 2) 0) x (t .from) (t .count) batch work count batch′ work′) same e)

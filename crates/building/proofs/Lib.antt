@@ -17,6 +17,7 @@ pub mod Places
 pub mod ReadInput
 pub mod Present
 pub mod NodeRules
+pub mod ListedRules
 pub mod NodeEnd
 pub mod Limits
 pub mod OwnShelf

@@ -10,14 +10,16 @@ use lib.Seq.{length-paste, paste}
 use Rattle.paper.specs.Refusals.{nodesIn}
 use Rattle.paper.specs.Stream.{StreamRecord, bodyLength, number, recordsOf, recordsWithin}
 use Rattle.stream.specs.Positions.{NextRule}
+use Rattle.stream.specs.RuleLists.{TellsFirst}
 use Rattle.building.specs.Batch.{Record, recordsIn}
 use Rattle.building.specs.Bounds.{batchRecords, slotSets}
 use Rattle.building.specs.Frames.{width}
 use Rattle.building.specs.Kinds.{ruleAbove}
+use Rattle.building.specs.Listed.{Listed}
 use Rattle.building.specs.Slots.{slotAt}
 use Rattle.building.specs.Coming.{Come, Coming, Joined}
-use Rattle.building.specs.Standing.{AtRule, Constants, Standing, State, Stepped, noSlots, stackLeft}
-use Rattle.building.specs.States.{started}
+use Rattle.building.specs.Standing.{AtRule, Standing, State, Stepped, noSlots, stackLeft}
+use Rattle.building.specs.States.{moved, started}
 use Rattle.building.proofs.Frames.{frames-cleared, paste-after}
 use Rattle.building.proofs.Limits.{constants-stay}
 use Rattle.building.proofs.NodeEnd.{node-passed}
@@ -32,13 +34,9 @@ few-records (suc n) [] = omega arith
 few-records (suc n) (k ∷ bytes) = omega (arith, few-records n (drop (bodyLength k) bytes))
 
 -- ---- the start of a node
-module _ (input : List ℕ) (t : State) (node at top : ℕ) (work : List ℕ) (made : List Record) (s : Coming input t node at top work made) where
-  -- whatever the first rule
-  constants-there : (rule : ℕ) → Constants input (started t node at top rule)
-  constants-there rule = constants-stay input t (started t node at top rule) refl refl refl refl refl refl (s .constants)
-
-  pub coming-ready : NodeReady input (started t node at top 0) work
-  coming-ready = node-ready input (started t node at top 0) work (constants-there 0) (s .here) (s .frames .room)
+module _ (input : List ℕ) (t : State) (work : List ℕ) (made : List Record) (s : Coming input t work made) where
+  pub coming-ready : NodeReady input t work
+  coming-ready = node-ready input t work (s .constants) (s .here) (s .frames .room)
 
   module _ (rule : ℕ) (search : NextRule input (t .rules) (s .here .here .kind + ruleAbove) (number (s .here .here) 0) rule) where
     abbrev size : ℕ
@@ -50,11 +48,11 @@ module _ (input : List ℕ) (t : State) (node at top : ℕ) (work : List ℕ) (m
     abbrev cleared : List ℕ
     cleared = paste work base (replicate size 0) size
 
-    same-base : top * size ≡ base
+    same-base : t .top * size ≡ base
     same-base = ap (λ x. x * width (t .arity) (t .states)) (s .here .high)
 
     asked : base + size ≤ t .asked
-    asked = omega (arith, same-base, frame-room input (started t node at top 0) (constants-there 0) (s .here))
+    asked = omega (arith, same-base, frame-room input t (s .constants) (s .here))
 
     fits : base + size ≤ length work
     fits = omega (arith, asked, s .frames .room)
@@ -70,17 +68,17 @@ module _ (input : List ℕ) (t : State) (node at top : ℕ) (work : List ℕ) (m
         paste-low work (replicate size 0) base size (t .from + t .count + 1) fits enough (s .frames .low)
         (λ j l. omega (arith, ap (λ x. x % slotSets) (getD-replicate {A = ℕ} size j 0 0 l))) i (omega (arith, suc-mul (length (s .here .stack)) size))
 
-    come : Come input t node work made (started t node at top rule) cleared
+    come : Come input t work made (started t rule) cleared
     come = record {
       standing = record {
         going = s .going;
         over = s .over;
-        constants = constants-there rule;
+        constants = constants-stay input t (started t rule) refl refl refl refl refl refl (s .constants);
         node = s .here;
         slots = noSlots;
-        rule = subst (λ earlier. AtRule input node rule (s .here .here) (s .here .earlier) (s .here .stack) (earlier, noSlots)) (s .earlier)
-            (first-rule input t (s .constants) node (s .here .here) (s .here .earlier) (s .here .stack)
-            (tree-kind-here input (started t node at top 0) (constants-there 0) (s .here)) rule search);
+        rule = subst (λ earlier. AtRule input (t .node) rule (s .here .here) (s .here .earlier) (s .here .stack) (earlier, noSlots)) (s .earlier)
+            (first-rule input t (s .constants) (t .node) (s .here .here) (s .here .earlier) (s .here .stack)
+            (tree-kind-here input t (s .constants) (s .here)) rule search);
         frames = record {
           frames = frames-cleared (t .arity) (t .states) work (s .here .stack) fits (s .frames .frames);
           low = low;
@@ -97,18 +95,21 @@ module _ (input : List ℕ) (t : State) (node at top : ℕ) (work : List ℕ) (m
     }
 
   -- of the numbers that the code has
-  pub has-come : {rule kind label from n : ℕ} {work′ : List ℕ} {r : State} → from ≡ top * width (t .arity) (t .states)
-      → n ≡ width (t .arity) (t .states) → work′ ≡ paste work from (replicate n 0) n → kind ≡ getD input at 0 + ruleAbove
-      → label ≡ getD input (at + 1) 0 → NextRule input (t .rules) kind label rule → r ≡ started t node at top rule
-      → Come input t node work made r work′
-  has-come {rule} {kind} {label} {from} {n} {work′} {r} e₁ e₂ e k l search result =
-      subst₂ (λ x w. Come input t node work made x w) (sym result) (sym pasted) (come rule found)
+  pub has-come : {rule kind label from n : ℕ} {work′ lists : List ℕ} {r : State} → Listed input lists → from ≡ t .top * width (t .arity) (t .states)
+      → n ≡ width (t .arity) (t .states) → work′ ≡ paste work from (replicate n 0) n → kind ≡ getD input (t .at) 0 + ruleAbove
+      → label ≡ getD input (t .at + 1) 0 → TellsFirst lists kind label rule → r ≡ started t rule → Come input t work made r work′
+  has-come {rule} {kind} {label} {from} {n} {work′} {r = r} listed e₁ e₂ e k l told result =
+      subst₂ (λ x w. Come input t work made x w) (sym result) (sym pasted) (come rule found)
     where
+      -- the lists are of the records that the rules begin with
+      search : NextRule input (t .rules) kind label rule
+      search = subst (λ x. NextRule input x kind label rule) (sym (s .constants .rules)) (told input (2 * nodesIn input + 3) (listed .rules))
+
       found : NextRule input (t .rules) (s .here .here .kind + ruleAbove) (number (s .here .here) 0) rule
       found =
           subst₂ (λ x y. NextRule input (t .rules) x y rule)
-          (k ∙ ap (λ x. x + ruleAbove) (kind-here input (started t node at top 0) (constants-there 0) (s .here)))
-          (l ∙ label-here input (started t node at top 0) (constants-there 0) (s .here)) search
+          (k ∙ ap (λ x. x + ruleAbove) (kind-here input t (s .constants) (s .here)))
+          (l ∙ label-here input t (s .constants) (s .here)) search
 
       size : ℕ
       size = width (t .arity) (t .states)
@@ -124,13 +125,13 @@ module _ (input : List ℕ) (t : State) (work : List ℕ) (made : List Record) (
     (more : t .node + 1 < t .nodes) where
   -- there is one more record
   coming-next : (behind : List StreamRecord) → s .node .behind ≡ behind → {top : ℕ} {work₁ : List ℕ} → Joined input t work made s top work₁
-      → Coming input t (t .node + 1) (t .at + 2) top work₁ made
+      → Coming input (moved t (t .node + 1) (t .at + 2) top) work₁ made
   coming-next [] e j =
       absurd (omega (arith, node-of input t (s .constants) (s .node), ap length e, s .constants .nodes))
   coming-next (next ∷ behind) e {top} {work₁} j = record {
     going = s .going;
     over = s .over;
-    constants = s .constants;
+    constants = constants-stay input t (moved t (t .node + 1) (t .at + 2) top) refl refl refl refl refl refl (s .constants);
     here = record {
       before = s .node .before ++ (s .node .here ∷ []);
       here = next;
@@ -145,19 +146,19 @@ module _ (input : List ℕ) (t : State) (work : List ℕ) (made : List Record) (
       high = j .high;
     };
     earlier = refl;
-    frames = j .frames;
+    frames = record { frames = j .frames .frames; low = j .frames .low; room = j .frames .room };
     used = s .used;
   }
 
   pub comes-next : {next top : ℕ} {work₁ : List ℕ} → next ≡ t .at + 1 + bodyLength (getD input (t .at) 0) → Joined input t work made s top work₁
-      → Coming input t (t .node + 1) next top work₁ made
+      → Coming input (moved t (t .node + 1) next top) work₁ made
   comes-next {next} {top} {work₁} e j =
       let two : t .at + 2 ≡ next = omega (arith, body-here input t (s .constants) (s .node)) in
-      subst (λ at. Coming input t (t .node + 1) at top work₁ made) two (coming-next (s .node .behind) refl j)
+      subst (λ at. Coming input (moved t (t .node + 1) at top) work₁ made) two (coming-next (s .node .behind) refl j)
 
   -- and so the turn is done
-  pub node-stepped : {top : ℕ} {work₁ work₂ : List ℕ} {r : State} → Joined input t work made s top work₁
-      → Come input t (t .node + 1) work₁ made r work₂ → (batch : List ℕ) (base : List Record) → made ≡ base ++ recordsIn (t .count) batch
+  pub node-stepped : {next top : ℕ} {work₁ work₂ : List ℕ} {r : State} → Joined input t work made s top work₁
+      → Come input (moved t (t .node + 1) next top) work₁ made r work₂ → (batch : List ℕ) (base : List Record) → made ≡ base ++ recordsIn (t .count) batch
       → length base ≡ t .from → t .from + t .count ≤ t .limit → t .count ≤ batchRecords → Stepped input t work base r work₂ batch
   node-stepped {work₂ = work₂} {r} j c batch base all start fits count = record {
     limit = c .limit;

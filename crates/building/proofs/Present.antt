@@ -2,11 +2,11 @@
 -- branch that there are two frames below; last what the code asks of these numbers.
 use mathlib.Core.Bool.{true}
 use mathlib.Core.List.{List, [], _++_, _∷_}
-use mathlib.Core.Logic.{⊎-elim}
+use mathlib.Core.Logic.{inl, inr, ⊎-elim}
 use mathlib.Core.Path.{_∙_, _≡_, ap, refl, subst, subst₂, sym}
 use Prim.Native.Nat.{_*_, _+_, _<_, _≤_, suc, ℕ}
 use native.Mathlib.Omega.{arith}
-use borrow.Author.Tests.{ltb-true}
+use borrow.Author.Tests.{leb-true, ltb-true}
 use lib.ListN.{getD, length, length-append}
 use Rattle.paper.specs.Building.{buildWork}
 use Rattle.paper.specs.Refusals.{atEach, nodesIn, queryIn, treeEndTests, treePart, treeTests}
@@ -14,13 +14,13 @@ use Rattle.paper.specs.Stream.{StreamRecord, bodyLength, number, whole}
 use Rattle.paper.specs.Tree.{Tree, grow, mostFrom, mostUnjoined, unjoined}
 use Rattle.laws.proofs.Replies.{Passes, passes-left}
 use Rattle.laws.proofs.StreamPlaces.{tree-kind}
-use Rattle.laws.specs.StreamCauses.{TreeKind}
+use Rattle.laws.specs.StreamCauses.{RuleKind, TreeKind}
 use Rattle.stream.specs.Positions.{recordAt}
 use Rattle.stream.proofs.Positions.{number-byte, whole-inside}
 use Rattle.stream.proofs.TreeSteps.{grow-few, unjoined-nodes}
 use Rattle.building.specs.Bounds.{mostNodes, mostPlaces, mostStates}
 use Rattle.building.specs.Frames.{width}
-use Rattle.building.specs.Kinds.{leafKind}
+use Rattle.building.specs.Kinds.{leafKind, ruleAbove}
 use Rattle.building.specs.Standing.{AtNode, Constants, State}
 use Rattle.building.proofs.Frames.{top-fits}
 use Rattle.building.proofs.NodeOrder.{stack-high, tests-at, two-unjoined}
@@ -75,6 +75,9 @@ module _ (input : List ℕ) (t : State) (k : Constants input t) (n : AtNode inpu
       sym (ap (λ (r : StreamRecord). number r 0) (sym stands-here)
       ∙ number-byte input (t .at) (getD input (t .at) 0) 0 (t .at + 1) refl (omega (arith, body-here)) (omega arith))
 
+  pub low-label : getD input (t .at + 1) 0 ≤ 63
+  low-label = omega (arith, label-here, leb-true (number (n .here) 0) 63 (tests-here .1 .1 .0))
+
   pub few-nodes : t .node < mostNodes
   few-nodes = omega (arith, n .number, ltb-true (length (n .before)) mostNodes (tests-here .0))
 
@@ -109,6 +112,8 @@ module _ (input : List ℕ) (t : State) (k : Constants input t) (n : AtNode inpu
 pub record NodeReady (input : List ℕ) (t : State) (work : List ℕ) : Type 0 where
   pub bytes : t .at + 2 ≤ length input
   pub kind : getD input (t .at) 0 ≤ 2
+  pub rules : RuleKind (getD input (t .at) 0 + ruleAbove)
+  pub label : getD input (t .at + 1) 0 ≤ 63
   pub body : bodyLength (getD input (t .at) 0) ≡ 1
   pub arity : t .arity ≤ mostPlaces
   pub states : t .states ≤ mostStates
@@ -121,6 +126,9 @@ pub node-ready : (input : List ℕ) (t : State) (work : List ℕ) → Constants 
 node-ready input t work k n room = record {
   bytes = inside-here input t k n;
   kind = ⊎-elim (λ e. omega (arith, kind-here input t k n)) (λ e. omega (arith, kind-here input t k n)) (tree-kind-here input t k n);
+  rules =
+      ⊎-elim (λ e. inl (omega (arith, kind-here input t k n))) (λ e. inr (omega (arith, kind-here input t k n))) (tree-kind-here input t k n);
+  label = low-label input t k n;
   body = body-here input t k n;
   arity = small-arity-here input t k n;
   states = few-states-here input t k n;

@@ -13,12 +13,14 @@ use lib.Pow.{ones-lt, pow-pos}
 use Rattle.paper.specs.Building.{Slots, acceptStep, allPlaces, recordSets, unionRecord}
 use Rattle.paper.specs.Lists.{has}
 use Rattle.paper.specs.Query.{acceptingOf}
-use Rattle.paper.specs.Refusals.{queryIn}
+use Rattle.paper.specs.Refusals.{nodesIn, queryIn}
 use Rattle.paper.specs.Stream.{recordsOf}
+use Rattle.stream.specs.RuleLists.{TellsAccepting}
 use Rattle.building.specs.Batch.{Made, Makes, Record, Set, empty, recordsIn, setIn}
 use Rattle.building.specs.Bounds.{mostFlags}
 use Rattle.building.specs.Branches.{shelfFrom}
 use Rattle.building.specs.Frames.{width}
+use Rattle.building.specs.Listed.{Listed}
 use Rattle.building.specs.Roots.{UnitedTo, UnitesNext, unitedTo}
 use Rattle.building.specs.Slots.{slotAt}
 use Rattle.building.specs.Standing.{Constants, Standing, State}
@@ -121,25 +123,31 @@ root-ready input t work made s q hq = record {
           s .frames .low (shelfFrom t (t .top) q + b) (omega (arith, suc-mul (length (s .node .stack)) size)),
         )
 
-module _ (input : List ℕ) (t : State) (work : List ℕ) (k : Constants input t) (q : ℕ) (m : Made) (more : t .count ≤ m .count)
-    (few : m .count ≤ t .count + q) (at-hand : m .set ≤ t .from + m .count + 1) (batch : List ℕ) (found : Bool)
-    (e : found ≡ has (acceptingOf (recordsOf (drop (t .rules) input))) q) where
-  pub next-skipped : not found ≡ true → UnitesNext input t work q m batch m batch
+module _ (t : State) (lists work : List ℕ) (q : ℕ) (m : Made) (more : t .count ≤ m .count) (few : m .count ≤ t .count + q)
+    (at-hand : m .set ≤ t .from + m .count + 1) (batch : List ℕ) (found : Bool) (told : TellsAccepting lists q found) where
+  -- whether the state is accepting, of any input whose rules are listed
+  tells : (input : List ℕ) → Constants input t → Listed input lists → found ≡ has (acceptingOf (recordsOf (drop (t .rules) input))) q
+  tells input k listed =
+      told input (2 * nodesIn input + 3) (listed .rules) ∙ ap (λ n. has (acceptingOf (recordsOf (drop n input))) q) (sym (k .rules))
+
+  pub next-skipped : not found ≡ true → UnitesNext t lists work q m batch m batch
   next-skipped none = record {
     more = more;
     few = omega arith;
     at-hand = at-hand;
-    unites = λ first done. united-skip input t work first k q found e m batch done (not-true found none);
+    unites = λ first done input k listed.
+        united-skip input t work first k q found (tells input k listed) m batch (done input k listed) (not-true found none);
   }
 
   pub next-united : not found ≡ false → q < t .states → {shelf size : ℕ} {m′ : Made} {batch′ : List ℕ} → shelf ≡ shelfFrom t (t .top) q
       → size ≡ 2 ^ t .arity
       → Makes (unionRecord (t .node) (size - 1) (setIn (m .set)) (setIn (slotAt work (shelf + (size - 1))))) 1 (t .from) (m .count) batch m′ batch′
-      → UnitesNext input t work q m batch m′ batch′
+      → UnitesNext t lists work q m batch m′ batch′
   next-united one hq {shelf} {size} e₁ e₂ u = record {
     more = omega (arith, u .more);
     few = omega (arith, u .few);
     at-hand = u .at-hand;
-    unites = λ first done.
-        united-more input t work first k q found e m batch done (not-false found one) hq (ap (λ b. b - 1) e₂) (ap (λ r. r + (size - 1)) e₁) u;
+    unites = λ first done input k listed.
+        united-more input t work first k q found (tells input k listed) m batch (done input k listed) (not-false found one) hq
+        (ap (λ b. b - 1) e₂) (ap (λ r. r + (size - 1)) e₁) u;
   }

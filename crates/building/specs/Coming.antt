@@ -17,28 +17,29 @@ pub record Joined (input : List ℕ) (t : State) (work : List ℕ) (made : List 
 abbrev pub Joins : List ℕ → State → List ℕ → ℕ → List ℕ → Type 0
 Joins input t work top work′ = (made : List Record) (s : Standing input t work made) → Joined input t work made s top work′
 
--- the building comes to a node with a state of the node before: its own frame is not cleared yet, and its rules are not looked for
-pub record Coming (input : List ℕ) (t : State) (node at top : ℕ) (work : List ℕ) (made : List Record) : Type 0 where
+-- the building comes to a node: the state has its number, where its record stands, and how many frames are below its own, which is not
+-- cleared yet; its rules are not looked for
+pub record Coming (input : List ℕ) (t : State) (work : List ℕ) (made : List Record) : Type 0 where
   pub going : t .going ≡ true
   pub over : t .over ≡ false
   pub constants : Constants input t
-  pub here : AtNode input node at top
+  pub here : AtNode input (t .node) (t .at) (t .top)
   pub earlier : here .earlier ≡ made
   pub frames : InWork t work (here .stack)
   pub used : length made ≡ t .from + t .count
 
-abbrev pub Comes : List ℕ → State → ℕ → ℕ → ℕ → List ℕ → Type 0
-Comes input t node at top work = (made : List Record) × Coming input t node at top work made
+abbrev pub Comes : List ℕ → State → List ℕ → Type 0
+Comes input t work = (made : List Record) × Coming input t work made
 
 -- it has come there
-pub record Come (input : List ℕ) (t : State) (node : ℕ) (work : List ℕ) (made : List Record) (r : State) (work′ : List ℕ) : Type 0 where
+pub record Come (input : List ℕ) (t : State) (work : List ℕ) (made : List Record) (r : State) (work′ : List ℕ) : Type 0 where
   pub standing : Standing input r work′ made
   pub limit : r .limit ≡ t .limit
   pub asked : r .asked ≡ t .asked
-  pub number : r .node ≡ node
+  pub number : r .node ≡ t .node
   pub from : r .from ≡ t .from
   pub count : r .count ≡ t .count
   pub rest : drop (t .asked) work′ ≡ drop (t .asked) work
 
-abbrev pub HasCome : List ℕ → State → ℕ → ℕ → ℕ → List ℕ → State → List ℕ → Type 0
-HasCome input t node at top work r work′ = (made : List Record) → Coming input t node at top work made → Come input t node work made r work′
+abbrev pub HasCome : List ℕ → State → List ℕ → State → List ℕ → Type 0
+HasCome input t work r work′ = (made : List Record) → Coming input t work made → Come input t work made r work′

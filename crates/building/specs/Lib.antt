@@ -10,6 +10,7 @@ pub mod Growing
 pub mod Frames
 pub mod States
 pub mod Standing
+pub mod Listed
 pub mod Coming
 pub mod Branches
 pub mod Roots

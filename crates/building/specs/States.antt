@@ -82,9 +82,13 @@ counted t count rule = cond (ltb (t .limit - t .from) count) (stopped t) (more t
 abbrev pub emptied : State → State
 emptied t = withBatch t (t .from + t .count) 0
 
--- at the first rule of a node: its number, where its record stands, and the frames below its own
-abbrev pub started : State → ℕ → ℕ → ℕ → ℕ → State
-started t node at top rule = withPlace t node at top rule
+-- come to a node: its number, where its record stands, and the frames below its own
+abbrev pub moved : State → ℕ → ℕ → ℕ → State
+moved t node at top = withPlace t node at top (t .rule)
+
+-- at the first rule of the node
+abbrev pub started : State → ℕ → State
+started t rule = withPlace t (t .node) (t .at) (t .top) rule
 
 -- at the end, with the set that was made
 abbrev pub ended : State → ℕ → State

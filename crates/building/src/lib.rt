@@ -16,6 +16,7 @@ use crate::start::begin;
 use crate::state::State;
 use paper::Built;
 use paper::Record;
+use stream::LIST_NUMBERS;
 
 mod answer;
 mod batch;
@@ -34,13 +35,15 @@ pub fn build(input: &[u8], work: &mut [u64], table: &mut [Record]) -> Built
 {
     // All that the start needs of the table: refusal 6 shows only when records are made.
     let entries = table.len();
-    match begin(input, &mut *work, entries) {
+    // Local, 3,346 bytes, as the batch below: no memory is asked for, and the caller lends none for them.
+    let mut lists: [u16; LIST_NUMBERS] = [0; LIST_NUMBERS];
+    match begin(input, &mut *work, &mut lists, entries) {
         // With 1 to 5 the work and the table are as they were.
         Begun::Refused(why) => Built::Refused(why),
         Begun::Going(s) => {
-            // Local, 3,880 bytes: no memory is asked for, and the caller lends none for it.
+            // 3,880 bytes.
             let mut batch: [u16; BATCH_NUMBERS] = [0; BATCH_NUMBERS];
-            let e = drive(&mut *table, input, s, &mut *work, &mut batch);
+            let e = drive(&mut *table, input, &lists, s, &mut *work, &mut batch);
             let answer = finish(e, &mut *work);
             // The records that did fit have been stored; refusal 6 leaves none of them.
             if e.over {
@@ -54,13 +57,20 @@ pub fn build(input: &[u8], work: &mut [u64], table: &mut [Record]) -> Built
 // All fillings: the records of each are stored in the table before the next. The loop ends since
 // each filling does at least one turn, and each turn passes a rule or a node, or is the last: `turnsLeft`
 // (specs/Standing.antt) falls.
-fn drive(table: &mut [Record], input: &[u8], s: State, work: &mut [u64], batch: &mut [u16]) -> State
-    requires { ⌜ Ready (now input) (now table) s (now work) (now batch) ⌝ }
+fn drive(
+    table: &mut [Record],
+    input: &[u8],
+    lists: &[u16],
+    s: State,
+    work: &mut [u64],
+    batch: &mut [u16],
+) -> State
+    requires { ⌜ Ready (now input) (now lists) (now table) s (now work) (now batch) ⌝ }
     ensures { λ r. ⌜ Driven (now (input .entry)) (now (table .entry)) s (now (work .entry)) (now (table .exit)) r (now (work .exit)) ⌝ }
 {
     let mut t = s;
     while t.going {
-        t = fill(t, input, &mut *work, &mut *batch);
+        t = fill(t, input, lists, &mut *work, &mut *batch);
         // They fit: `count` is 0 past the limit, and the limit is at most the table's length.
         let from = t.from;
         let count = t.count;

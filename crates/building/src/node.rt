@@ -9,6 +9,7 @@ ghost use Rattle.building.specs.Bounds.{batchNumbers, waitingRecords};
 ghost use Rattle.building.specs.Branches.{BranchReady, branchOf};
 ghost use Rattle.building.specs.Coming.{Comes, HasCome, Joins};
 ghost use Rattle.building.specs.Kinds.{leafKind};
+ghost use Rattle.building.specs.Listed.{Listed};
 ghost use Rattle.building.specs.Standing.{IsStanding, IsFilling, Turned};
 use crate::batch::WAITING_RECORDS;
 use crate::frame::clear;
@@ -22,25 +23,28 @@ use crate::rule::branch_rule;
 use crate::rule::leaf_rule;
 use crate::state::State;
 use crate::state::count_records;
-use paper::kinds::BRANCH_RULE;
 use paper::kinds::LEAF;
-use paper::kinds::LEAF_RULE;
 use paper::kinds::RULE_ABOVE;
 use stream::body_length;
-use stream::next_rule;
+use stream::first_rule;
+use stream::rule_after;
 
 // The rules of a leaf from the next one on, as long as there is room in the batch for the records of one
 // more. The loop ends since `rule` moves on through the stream, to its end where no rule is left; where
 // the batch ends it, the turn after the next store goes on at `rule`. A leaf rule makes one record at
 // most, and yet the loop stops where a branch's does: so one law (proofs/RuleLoop.antt) serves both.
-pub(crate) fn leaf_rules(t: State, input: &[u8], work: &mut [u64], batch: &mut [u16]) -> State
-    requires { ⌜ IsFilling (now input) t (now work) (now batch) ⌝ }
+pub(crate) fn leaf_rules(
+    t: State,
+    input: &[u8],
+    lists: &[u16],
+    work: &mut [u64],
+    batch: &mut [u16],
+) -> State
+    requires { ⌜ IsFilling (now input) t (now work) (now batch) × Listed (now input) (now lists) ⌝ }
     requires { ⌜ (t .rule < length (now input)) × (getD (now input) (t .at) 0 ≡ leafKind) ⌝ }
     requires { ⌜ (batchNumbers ≤ length (now batch)) × (t .count ≤ waitingRecords) ⌝ }
     ensures { λ r. ⌜ Turned (now (input .entry)) t (now (work .entry)) (now (batch .entry)) r (now (work .exit)) (now (batch .exit)) ⌝ }
 {
-    let at = t.at;
-    let label = input[at + 1];
     let mut count = t.count;
     let mut rule = t.rule;
     while rule < input.len() && count <= WAITING_RECORDS {
@@ -56,7 +60,7 @@ pub(crate) fn leaf_rules(t: State, input: &[u8], work: &mut [u64], batch: &mut [
             flag,
             to,
         );
-        rule = next_rule(input, rule + 1 + body_length(LEAF_RULE), LEAF_RULE, label);
+        rule = rule_after(lists, t.rules, rule);
     }
     // Once a turn, and not once a rule: until it is stored the batch may go past the limit.
     count_records(t, count, rule)
@@ -83,25 +87,24 @@ fn branch_at(t: State, input: &[u8], rule: usize) -> Branch
 }
 
 // The rules of a branch, likewise: the loop ends by the stream or by the batch, as that of a leaf.
-pub(crate) fn branch_rules(t: State, input: &[u8], work: &mut [u64], batch: &mut [u16]) -> State
-    requires { ⌜ IsFilling (now input) t (now work) (now batch) ⌝ }
+pub(crate) fn branch_rules(
+    t: State,
+    input: &[u8],
+    lists: &[u16],
+    work: &mut [u64],
+    batch: &mut [u16],
+) -> State
+    requires { ⌜ IsFilling (now input) t (now work) (now batch) × Listed (now input) (now lists) ⌝ }
     requires { ⌜ (t .rule < length (now input)) × (getD (now input) (t .at) 0 ≡ leafKind → ⊥) ⌝ }
     requires { ⌜ (batchNumbers ≤ length (now batch)) × (t .count ≤ waitingRecords) ⌝ }
     ensures { λ r. ⌜ Turned (now (input .entry)) t (now (work .entry)) (now (batch .entry)) r (now (work .exit)) (now (batch .exit)) ⌝ }
 {
-    let at = t.at;
-    let label = input[at + 1];
     let mut count = t.count;
     let mut rule = t.rule;
     while rule < input.len() && count <= WAITING_RECORDS {
         let here = branch_at(t, input, rule);
         count = branch_rule(&mut *batch, &mut *work, count, here);
-        rule = next_rule(
-            input,
-            rule + 1 + body_length(BRANCH_RULE),
-            BRANCH_RULE,
-            label,
-        );
+        rule = rule_after(lists, t.rules, rule);
     }
     count_records(t, count, rule)
 }
@@ -126,36 +129,28 @@ fn join_frames(t: State, input: &[u8], work: &mut [u64]) -> usize
 
 // The start of a node: its frame is cleared, and its first rule looked for, whose kind is 16 more than
 // the node's. What stands in the frame before is what another subtree or the lender has left there.
-pub(crate) fn start_node(
-    t: State,
-    node: usize,
-    at: usize,
-    top: usize,
-    input: &[u8],
-    work: &mut [u64],
-) -> State
-    requires { ⌜ Comes (now input) t node at top (now work) ⌝ }
-    ensures { λ r. ⌜ HasCome (now (input .entry)) t node at top (now (work .entry)) r (now (work .exit)) ⌝ }
+pub(crate) fn start_node(t: State, input: &[u8], lists: &[u16], work: &mut [u64]) -> State
+    requires { ⌜ Comes (now input) t (now work) × Listed (now input) (now lists) ⌝ }
+    ensures { λ r. ⌜ HasCome (now (input .entry)) t (now (work .entry)) r (now (work .exit)) ⌝ }
 {
-    let from = frame_at(t.arity, t.states, top);
+    let from = frame_at(t.arity, t.states, t.top);
     clear(&mut *work, from, frame_width(t.arity, t.states));
-    // The rules are looked through anew for each node, from the first on: nothing is kept of them.
+    let at = t.at;
     let mut next = t;
-    next.node = node;
-    next.at = at;
-    next.top = top;
-    next.rule = next_rule(input, t.rules, input[at] + RULE_ABOVE, input[at + 1]);
+    next.rule = first_rule(lists, input[at] + RULE_ABOVE, input[at + 1]);
     next
 }
 
 // The end of the present node and the start of the next. No record is made, so the batch is not needed.
-pub(crate) fn next_node(t: State, input: &[u8], work: &mut [u64]) -> State
-    requires { ⌜ IsStanding (now input) t (now work) ⌝ }
+pub(crate) fn next_node(t: State, input: &[u8], lists: &[u16], work: &mut [u64]) -> State
+    requires { ⌜ IsStanding (now input) t (now work) × Listed (now input) (now lists) ⌝ }
     requires { ⌜ (length (now input) ≤ t .rule) × (t .node + 1 < t .nodes) × (t .count ≤ waitingRecords) ⌝ }
     ensures { λ r. ⌜ ((batch : List ℕ) → Turned (now (input .entry)) t (now (work .entry)) batch r (now (work .exit)) batch) ⌝ }
 {
     let at = t.at;
-    let next = at + 1 + body_length(input[at]);
-    let top = join_frames(t, input, &mut *work);
-    start_node(t, t.node + 1, next, top, input, &mut *work)
+    let mut next = t;
+    next.node = t.node + 1;
+    next.at = at + 1 + body_length(input[at]);
+    next.top = join_frames(t, input, &mut *work);
+    start_node(next, input, lists, &mut *work)
 }

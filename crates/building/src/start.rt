@@ -1,10 +1,12 @@
 // The start of a build: the tree and the query are read, the work is measured, and the building stands at
 // its first node. The paper's order of the refusals is the order here: 1 and 2, 3 and 4, then 5.
 ghost use mathlib.Core.Path.{_≡_};
-ghost use Prim.Native.Nat.{min};
+ghost use Prim.Native.Nat.{_≤_, min};
+ghost use lib.ListN.{length};
 ghost use Rattle.paper.specs.Refusals.{answer};
 ghost use Rattle.stream.specs.Reading.{treeReply, queryReply};
 ghost use Rattle.building.specs.Bounds.{mostRecords};
+ghost use Rattle.building.specs.Listed.{listNumbers};
 ghost use Rattle.building.specs.Start.{Begins};
 use crate::frame::frame_width;
 use crate::node::start_node;
@@ -15,6 +17,7 @@ use stream::QueryFacts;
 use stream::QueryRead;
 use stream::TreeFacts;
 use stream::TreeRead;
+use stream::list_rules;
 use stream::read_query;
 use stream::read_tree;
 use table::EMPTY;
@@ -41,13 +44,15 @@ fn record_limit(entries: usize) -> usize
 fn start(
     input: &[u8],
     work: &mut [u64],
+    lists: &mut [u16],
     entries: usize,
     tree: TreeFacts,
     query: QueryFacts,
 ) -> Begun
     requires { ⌜ answer tree ≡ treeReply (now input) ⌝ }
     requires { ⌜ answer query ≡ queryReply (now input) (tree .end) ⌝ }
-    ensures { λ r. ⌜ Begins (now (input .entry)) (now (work .entry)) entries r (now (work .exit)) ⌝ }
+    requires { ⌜ listNumbers ≤ length (now lists) ⌝ }
+    ensures { λ r. ⌜ Begins (now (input .entry)) (now (work .entry)) entries r (now (work .exit)) (now (lists .exit)) ⌝ }
 {
     // A frame for each of the most subtrees ever unjoined, and one for the present node. At most 4,096
     // frames of at most 256 numbers: a usize holds far more.
@@ -55,7 +60,7 @@ fn start(
     if work.len() < asked {
         return Begun::Refused(Refusal::ShortWork);
     }
-    // Where the first node stands, and its first rule, `start_node` says.
+    // The first rule of the first node `start_node` looks up.
     let t = State {
         from: 0,
         count: 0,
@@ -73,19 +78,21 @@ fn start(
         going: true,
         over: false,
     };
-    Begun::Going(start_node(t, 0, 0, 0, input, &mut *work))
+    list_rules(input, query.rules, &mut *lists);
+    Begun::Going(start_node(t, input, &*lists, &mut *work))
 }
 
 // The tree, then the query behind it: the first that is refused ends the build. What is kept of them is a
 // few numbers; the rules are read again, where they stand, at each node.
-pub(crate) fn begin(input: &[u8], work: &mut [u64], entries: usize) -> Begun
-    ensures { λ r. ⌜ Begins (now (input .entry)) (now (work .entry)) entries r (now (work .exit)) ⌝ }
+pub(crate) fn begin(input: &[u8], work: &mut [u64], lists: &mut [u16], entries: usize) -> Begun
+    requires { ⌜ listNumbers ≤ length (now lists) ⌝ }
+    ensures { λ r. ⌜ Begins (now (input .entry)) (now (work .entry)) entries r (now (work .exit)) (now (lists .exit)) ⌝ }
 {
     match read_tree(input) {
         TreeRead::Refused(why) => Begun::Refused(why),
         TreeRead::Tree(tree) => match read_query(input, tree.end) {
             QueryRead::Refused(why) => Begun::Refused(why),
-            QueryRead::Query(query) => start(input, &mut *work, entries, tree, query),
+            QueryRead::Query(query) => start(input, &mut *work, &mut *lists, entries, tree, query),
         },
     }
 }

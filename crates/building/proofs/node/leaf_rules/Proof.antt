@@ -11,19 +11,19 @@ use Rattle.building.specs.Bounds.{waitingRecords}
 use Rattle.building.specs.Standing.{Filling}
 use Rattle.building.specs.States.{more}
 use Rattle.building.proofs.LeafTurn.{LeafReady, leaf-onward, leaf-ready}
+use Rattle.building.proofs.ListedRules.{next-listed, rule-cell}
 use Rattle.building.proofs.OwnShelf.{Onward}
-use Rattle.building.proofs.Present.{inside-here}
-use Rattle.building.proofs.RuleLoop.{Ran, ran-ends, ran-onward, ran-starts, searched-from}
+use Rattle.building.proofs.RuleLoop.{Ran, ran-ends, ran-onward, ran-starts}
 use Rattle.building.proofs.node.leaf_rules.Statement.{statement}
 use Rattle.building.proofs.node.leaf_rules.Tie as tie
 
 abbrev Inv-loop : tie.InvT-loop
-Inv-loop t input work₀ batch₀ at label count₀ rule₀ work batch count rule =
+Inv-loop t input lists work₀ batch₀ count₀ rule₀ work batch count rule =
     (length batch ≡ length batch₀) × (length work ≡ length work₀)
     × ((base : List Record) → Filling input t work₀ batch₀ base → Ran input t work₀ base count rule work batch)
 
 abbrev μ-loop : tie.MeasureT-loop
-μ-loop t input work₀ batch₀ at label count₀ rule₀ work batch count rule = length (recordsOf (drop rule input))
+μ-loop t input lists work₀ batch₀ count₀ rule₀ work batch count rule = length (recordsOf (drop rule input))
 
 abbrev start : tie.Then1 Inv-loop μ-loop → tie.Start Inv-loop μ-loop
 start c = c .before .before .before .before .before .before .before
@@ -36,42 +36,31 @@ ready : (c : tie.Then1 Inv-loop μ-loop)
 ready c =
     let b = start c in
     let l = c .before .before .loop in
-    leaf-ready (b .args .input .now) (more (b .args .t) (l .count) (l .rule)) (l .work) (b .pre .0 .0 ++ recordsIn (l .count) (l .batch))
-    (l .inv .2 (b .pre .0 .0) (b .pre .0 .1) .standing) (c .before .loop-test .taken) (b .pre .1 .0 .1)
+    leaf-ready (b .args .input .now) (more (b .args .t) (l .count) (l .rule)) (l .work) (b .pre .0 .0 .0 ++ recordsIn (l .count) (l .batch))
+    (l .inv .2 (b .pre .0 .0 .0) (b .pre .0 .0 .1) .standing) (c .before .loop-test .taken) (b .pre .1 .0 .1)
 
-abbrev turn : tie.After-next-rule Inv-loop μ-loop → tie.Then1 Inv-loop μ-loop
-turn c = c .before .before .before .before .before .before .before .before .before .before .before .before .before
+abbrev turn : tie.After-rule-after Inv-loop μ-loop → tie.Then1 Inv-loop μ-loop
+turn c = c .before .before .before .before .before .before .before .before .before .before .before .before
 
 -- one more rule, whatever is in the table
-onward : (c : tie.After-next-rule Inv-loop μ-loop) (base : List Record)
+onward : (c : tie.After-rule-after Inv-loop μ-loop) (base : List Record)
     → let t = turn c in
     let a = (start t) .args in
     let l = t .before .before .loop in
-    let done = c .before .before .before .before .before .before in
+    let done = c .before .before .before .before .before in
     Filling (a .input .now) (a .t) (a .work .now) (a .batch .now) base
-    → Onward (a .input .now) (more (a .t) (l .count) (l .rule)) (l .work) base (done .leaf-rule .result) (c .next-rule .result)
+    → Onward (a .input .now) (more (a .t) (l .count) (l .rule)) (l .work) base (done .leaf-rule .result) (c .rule-after .result)
     (done .leaf-rule .last .1 .0) (done .leaf-rule .last .0)
 onward c base f =
     let t = turn c in
     let b = start t in
     let a = b .args in
     let l = t .before .before .loop in
-    let done = c .before .before .before .before .before .before in
+    let done = c .before .before .before .before .before in
     leaf-onward (a .input .now) (more (a .t) (l .count) (l .rule)) (l .work) (l .batch) base (l .inv .2 base f .standing) (f .start)
     (t .before .loop-test .taken) (b .pre .1 .0 .1) _ _ _ _ (done .leaf-rule .kept .1 .0)
-    (done .before .before .before .before .shelf-at .ensures) (done .leaf-rule .ensures) (searched-from (omega (arith, c .before .body-length .ensures)) (c .next-rule .ensures))
-
-add-label : tie.Need-add-label Inv-loop μ-loop
-add-label c =
-    let b = c .before .before .before in
-    let s = b .pre .0 .1 .standing in
-    omega (arith, inside-here (b .args .input .now) (b .args .t) (s .constants) (s .node), b .good)
-
-shared-slice-read-label : tie.Need-shared-slice-read-label Inv-loop μ-loop
-shared-slice-read-label c =
-    let b = c .before .before .before .before in
-    let s = b .pre .0 .1 .standing in
-    omega (arith, inside-here (b .args .input .now) (b .args .t) (s .constants) (s .node))
+    (done .before .before .before .before .shelf-at .ensures) (done .leaf-rule .ensures) (next-listed (a .input .now) (more (a .t) (l .count) (l .rule)) (l .work) (base ++ recordsIn (l .count) (l .batch)) (l .inv .2 base f .standing)
+    (t .before .loop-test .taken) (b .pre .0 .1) (c .rule-after .ensures))
 
 loop-holds : tie.Need-loop-holds Inv-loop μ-loop
 loop-holds c =
@@ -116,28 +105,21 @@ leaf-rule-requires c κs =
       b .pre .1 .1 .0,
       l .inv .0,
       leb-true (l .count) waitingRecords (t .if1 .taken),
-      b .pre .0 .1 .few,
-      b .pre .0 .1 .standing .constants .limit,
+      b .pre .0 .0 .1 .few,
+      b .pre .0 .0 .1 .standing .constants .limit,
     )
 
-add-next-rule : tie.Need-add-next-rule Inv-loop μ-loop
-add-next-rule c =
+rule-after-requires : tie.Need-rule-after-requires Inv-loop μ-loop
+rule-after-requires c κs =
     let t = c .before .before .before .before .before .before .before .before .before .before .before in
-    omega (arith, t .before .loop-test .taken, (start t) .good)
-
-body-length-requires : tie.Need-body-length-requires Inv-loop μ-loop
-body-length-requires c κs = tt
-
-add-next-rule-2 : tie.Need-add-next-rule-2 Inv-loop μ-loop
-add-next-rule-2 c =
-    let t = c .before .before .before .before .before .before .before .before .before .before .before .before in
-    omega (arith, t .before .loop-test .taken, c .body-length .ensures, (start t) .good)
-
-next-rule-requires : tie.Need-next-rule-requires Inv-loop μ-loop
-next-rule-requires c κs = tt
+    let b = start t in
+    let a = b .args in
+    let l = t .before .before .loop in
+    rule-cell (a .input .now) (more (a .t) (l .count) (l .rule)) (l .work) (b .pre .0 .0 .0 ++ recordsIn (l .count) (l .batch))
+    (l .inv .2 (b .pre .0 .0 .0) (b .pre .0 .0 .1) .standing) (t .before .loop-test .taken) (b .pre .0 .1)
 
 loop-less : tie.Need-loop-less Inv-loop μ-loop
-loop-less c = let b = start (turn c) in onward c (b .pre .0 .0) (b .pre .0 .1) .fewer
+loop-less c = let b = start (turn c) in onward c (b .pre .0 .0 .0) (b .pre .0 .0 .1) .fewer
 
 loop-again : tie.Need-loop-again Inv-loop μ-loop
 loop-again c =
@@ -145,7 +127,7 @@ loop-again c =
     let b = start t in
     let a = b .args in
     let l = t .before .before .loop in
-    let done = c .before .before .before .before .before .before in (
+    let done = c .before .before .before .before .before in (
       done .leaf-rule .kept .0 ∙ l .inv .0,
       done .leaf-rule .kept .1 .0 ∙ l .inv .1,
       λ base f.
@@ -154,7 +136,7 @@ loop-again c =
     )
 
 count-records-requires : tie.Need-count-records-requires Inv-loop μ-loop
-count-records-requires c κs = omega (arith, c .before .before .before .before .before .before .pre .0 .1 .few)
+count-records-requires c κs = omega (arith, c .before .before .before .before .before .before .pre .0 .0 .1 .few)
 
 same-length : tie.Need-same-length Inv-loop μ-loop
 same-length c = c .before .before .loop .inv .1
@@ -176,8 +158,6 @@ leaf-rules-spec =
     (tie.spec
     Inv-loop
     μ-loop
-    add-label
-    shared-slice-read-label
     loop-holds
     add-flag
     shared-slice-read-flag
@@ -188,10 +168,7 @@ leaf-rules-spec =
     shelf-at-requires
     cast-leaf-rule
     leaf-rule-requires
-    add-next-rule
-    body-length-requires
-    add-next-rule-2
-    next-rule-requires
+    rule-after-requires
     loop-less
     loop-again
     count-records-requires

@@ -13,38 +13,41 @@ use Rattle.building.proofs.node.next_node.Tie as tie
 -- what is known from the start
 ready : (c : tie.Start) → NodeReady (c .args .input .now) (c .args .t) (c .args .work .now)
 ready c =
-    let s = c .pre .0 .1 in
+    let s = c .pre .0 .0 .1 in
     node-ready (c .args .input .now) (c .args .t) (c .args .work .now) (s .constants) (s .node) (s .frames .room)
 
 add-next : tie.Need-add-next
 add-next c = search needs
 
+add-next-2 : tie.Need-add-next-2
+add-next-2 c = search needs
+
 shared-slice-read-body-length : tie.Need-shared-slice-read-body-length
-shared-slice-read-body-length c = omega (arith, ready (c .before .before .before))
+shared-slice-read-body-length c = omega (arith, ready (c .before .before .before .before .before))
 
 body-length-requires : tie.Need-body-length-requires
 body-length-requires c κs = tt
 
-add-next-2 : tie.Need-add-next-2
-add-next-2 c = omega (arith, ready (c .before .before .before .before), c .body-length .ensures)
+add-next-3 : tie.Need-add-next-3
+add-next-3 c = omega (arith, ready (c .before .before .before .before .before .before), c .body-length .ensures)
 
 join-frames-requires : tie.Need-join-frames-requires
-join-frames-requires c κs = c .before .before .before .before .before .pre .0
-
-add-start-node : tie.Need-add-start-node
-add-start-node c = search needs
+join-frames-requires c κs = c .before .before .before .before .before .before .before .pre .0 .0
 
 start-node-requires : tie.Need-start-node-requires
 start-node-requires c κs =
-    let joined = c .before .before .before .before in
+    let joined = c .before .before .before in
     let length = joined .before .before in
-    let start = length .before .before .before .before in
+    let start = length .before .before .before .before .before .before in
     let a = start .args in
-    let made = start .pre .0 .0 in
-    let s = start .pre .0 .1 in (
-      made,
-      comes-next (a .input .now) (a .t) (a .work .now) made s (start .pre .1 .0) (start .pre .1 .1)
-          (ap (λ n. a .t .at + 1 + n) (length .body-length .ensures)) (joined .join-frames .ensures made s),
+    let made = start .pre .0 .0 .0 in
+    let s = start .pre .0 .0 .1 in (
+      (
+        made,
+        comes-next (a .input .now) (a .t) (a .work .now) made s (start .pre .1 .0) (start .pre .1 .1)
+            (ap (λ n. a .t .at + 1 + n) (length .body-length .ensures)) (joined .join-frames .ensures made s),
+      ),
+      start .pre .0 .1,
     )
 
 same-length : tie.Need-same-length
@@ -53,9 +56,9 @@ same-length c = search needs
 returns : tie.Need-returns
 returns c batch base f =
     let come = c .before .before in
-    let joined = come .before .before .before .before .before in
+    let joined = come .before .before .before .before in
     let length = joined .before .before in
-    let start = length .before .before .before .before in
+    let start = length .before .before .before .before .before .before in
     let a = start .args in
     let made = base ++ recordsIn (a .t .count) batch in
     let s = f .standing in
@@ -70,11 +73,11 @@ next-node-spec =
     tie.close
     (tie.spec
     add-next
+    add-next-2
     shared-slice-read-body-length
     body-length-requires
-    add-next-2
+    add-next-3
     join-frames-requires
-    add-start-node
     start-node-requires
     same-length
     returns)

@@ -9,33 +9,40 @@ use Rattle.building.proofs.roots.roots.Tie as tie
 unite-roots-requires : tie.Need-unite-roots-requires
 unite-roots-requires c κs =
     let start = c .before .before .before .before in
-    let f = start .pre .0 .1 in
-    ((_, f .standing, f .few), start .pre .1 .1)
+    let (input, filling, listed, done, last) = start .pre .0 in
+    let f = filling .1 in
+    ((input, ((_, f .standing, f .few), listed)), start .pre .1)
 
 count-records-requires : tie.Need-count-records-requires
-count-records-requires c κs = search needs
+count-records-requires c κs =
+    let start = c .before .before .before .before .before .before .before in
+    let f = start .pre .0 .1 .1 in
+    omega (arith, f .few)
 
 cast-last : tie.Need-cast-last
 cast-last c =
     let united = c .before .before .before .before in
     let start = united .before .before .before .before .before in
     let a = start .args in
+    let (input, filling, listed, done, last) = start .pre .0 in
+    let (base, f) = filling in
     omega (
       arith,
-      set-fits (a .input .now) (a .t) (a .work .now) (a .batch .now) (start .pre .0 .0) (start .pre .0 .1) (start .pre .1 .1 .1) (start .pre .1 .0 .0)
-          (start .pre .1 .0 .1) (united .unite-roots .result) (united .unite-roots .last .1 .1 .1 .0) (united .unite-roots .ensures),
+      set-fits input (a .t) (a .work .now) (a .batch .now) base f (start .pre .1 .1) done last (united .unite-roots .result)
+          (united .unite-roots .last .1 .1 .1 .0) (united .unite-roots .ensures input (f .standing .constants) listed),
     )
 
 same-length : tie.Need-same-length
 same-length c = search needs
 
 returns : tie.Need-returns
-returns c base f =
+returns c input listed done base f =
     let united = c .before .before .before .before in
     let start = united .before .before .before .before .before in
     let a = start .args in
-    roots-stepped (a .input .now) (a .t) (a .work .now) (a .batch .now) base f (start .pre .1 .1 .1) (start .pre .1 .0 .0) (start .pre .1 .0 .1)
-    (united .unite-roots .result) (united .unite-roots .last .1 .1 .1 .0) (united .unite-roots .ensures) (c .before .count-records .ensures) refl
+    roots-stepped input (a .t) (a .work .now) (a .batch .now) base f (start .pre .1 .1) done (start .pre .0 .4)
+    (united .unite-roots .result) (united .unite-roots .last .1 .1 .1 .0) (united .unite-roots .ensures input (f .standing .constants) listed)
+    (c .before .count-records .ensures) refl
 
 pub roots-spec : {M : Type 1} → statement M
 roots-spec = tie.close (tie.spec unite-roots-requires count-records-requires cast-last same-length returns)

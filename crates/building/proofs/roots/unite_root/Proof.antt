@@ -9,23 +9,23 @@ use Rattle.building.proofs.roots.unite_root.Statement.{statement}
 use Rattle.building.proofs.roots.unite_root.Tie as tie
 
 -- what is known from the start
-ready : (c : tie.Start) → RootReady (c .args .input .now) (c .args .t) (c .args .work .now) (c .args .state)
+ready : (c : tie.Start) → RootReady (c .pre .0 .0 .0) (c .args .t) (c .args .work .now) (c .args .state)
 ready c =
     let a = c .args in
-    root-ready (a .input .now) (a .t) (a .work .now) (c .pre .0 .0 .0) (c .pre .0 .0 .1) (a .state) (c .pre .1 .0 .0)
+    let (made, s, few) = c .pre .0 .0 .1 .0 in
+    root-ready (c .pre .0 .0 .0) (a .t) (a .work .now) made s (a .state) (c .pre .1 .0 .0)
 
-cast-is-accepting : tie.Need-cast-is-accepting
-cast-is-accepting c = omega (arith, ready (c .before .before .before))
-
-is-accepting-requires : tie.Need-is-accepting-requires
-is-accepting-requires c κs = search needs
+accepts-requires : tie.Need-accepts-requires
+accepts-requires c κs =
+    let start = c .before .before .before in
+    (omega (arith, ready start, start .pre), omega (arith, start .pre .0 .0 .1 .1 .room .0))
 
 returns : tie.Need-returns
 returns c =
     let start = c .before .before .before .before .before in
     let a = start .args in
-    next-skipped (a .input .now) (a .t) (a .work .now) (start .pre .0 .0 .1 .constants) (a .state) (a .made) (start .pre .1 .1 .0) (start .pre .1 .1 .1)
-    (start .pre .1 .1 .2) (a .batch .now) (c .before .is-accepting .result) (c .before .is-accepting .ensures) (c .if1 .taken)
+    next-skipped (a .t) (a .lists .now) (a .work .now) (a .state) (a .made) (start .pre .1 .1 .0) (start .pre .1 .1 .1)
+    (start .pre .1 .1 .2) (a .batch .now) (c .before .accepts .result) (c .before .accepts .ensures) (c .if1 .taken)
 
 flags-requires : tie.Need-flags-requires
 flags-requires c κs = omega (arith, ready (c .before .before .before .before .before))
@@ -68,7 +68,7 @@ union-requires c κs =
       ready s,
       slot shelf,
       s .pre,
-      s .pre .0 .0 .1 .constants .limit,
+      s .pre .0 .0 .1 .0 .1 .constants .limit,
       shelf .before .flags .ensures,
     )
 
@@ -81,16 +81,15 @@ returns-2 c =
     let asked = shelf .before .before .before in
     let s = start shelf in
     let a = s .args in
-    next-united (a .input .now) (a .t) (a .work .now) (s .pre .0 .0 .1 .constants) (a .state) (a .made) (s .pre .1 .1 .0) (s .pre .1 .1 .1)
-    (s .pre .1 .1 .2) (a .batch .now) (asked .is-accepting .result) (asked .is-accepting .ensures) (shelf .before .before .if1 .left) (s .pre .1 .0 .0)
+    next-united (a .t) (a .lists .now) (a .work .now) (a .state) (a .made) (s .pre .1 .1 .0) (s .pre .1 .1 .1)
+    (s .pre .1 .1 .2) (a .batch .now) (asked .accepts .result) (asked .accepts .ensures) (shelf .before .before .if1 .left) (s .pre .1 .0 .0)
     (shelf .shelf-at .ensures) (shelf .before .flags .ensures) (c .before .before .union .ensures)
 
 pub unite-root-spec : {M : Type 1} → statement M
 unite-root-spec =
     tie.close
     (tie.spec
-    cast-is-accepting
-    is-accepting-requires
+    accepts-requires
     returns
     flags-requires
     sub-places

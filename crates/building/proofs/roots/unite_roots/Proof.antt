@@ -3,24 +3,24 @@ use mathlib.Core.Path.{_∙_, _≡_, refl, subst}
 use Prim.Native.Nat.{_+_, _-_, _≤_}
 use native.Mathlib.Omega.{arith}
 use lib.ListN.{length}
-use Rattle.building.specs.Roots.{UnitedTo}
+use Rattle.building.specs.Roots.{UnitesTo}
 use Rattle.building.proofs.Present.{few-states-here}
 use Rattle.building.proofs.UnitedRoots.{united-none}
 use Rattle.building.proofs.roots.unite_roots.Statement.{statement}
 use Rattle.building.proofs.roots.unite_roots.Tie as tie
 
 abbrev Inv-loop : tie.InvT-loop
-Inv-loop t input work batch₀ made₀ state₀ batch made state =
+Inv-loop t lists work batch₀ made₀ state₀ batch made state =
     (state ≤ t .states) × (length batch ≡ length batch₀) × (t .count ≤ made .count) × (made .count ≤ t .count + state)
-    × (made .set ≤ t .from + made .count + 1) × UnitedTo input t work state batch₀ made batch
+    × (made .set ≤ t .from + made .count + 1) × UnitesTo t lists work state batch₀ made batch
 
 abbrev μ-loop : tie.MeasureT-loop
-μ-loop t input work batch₀ made₀ state₀ batch made state = t .states - state
+μ-loop t lists work batch₀ made₀ state₀ batch made state = t .states - state
 
 loop-holds : tie.Need-loop-holds Inv-loop μ-loop
 loop-holds c =
     let a = c .before .before .before .args in
-    (omega arith, refl, omega arith, omega arith, omega arith, united-none (a .input .now) (a .t) (a .work .now) (a .batch .now))
+    (omega arith, refl, omega arith, omega arith, omega arith, λ input k listed. united-none input (a .t) (a .work .now) (a .batch .now))
 
 unite-root-requires : tie.Need-unite-root-requires Inv-loop μ-loop
 unite-root-requires c κs =
@@ -31,8 +31,8 @@ unite-root-requires c κs =
 add-state : tie.Need-add-state Inv-loop μ-loop
 add-state c =
     let start = c .before .before .before .before .before .before .before .before .before .before in
-    let s = start .pre .0 .1 in
-    omega (arith, c .before .before .before .before .if1 .taken, few-states-here (start .args .input .now) (start .args .t) (s .constants) (s .node))
+    let s = start .pre .0 .1 .0 .1 in
+    omega (arith, c .before .before .before .before .if1 .taken, few-states-here (start .pre .0 .0) (start .args .t) (s .constants) (s .node))
 
 loop-less : tie.Need-loop-less Inv-loop μ-loop
 loop-less c = omega (arith, c .before .before .before .before .if1 .taken)
@@ -59,7 +59,7 @@ returns c =
     let l = c .before .before .loop in
     let a = c .before .before .before .before .before .before .args in
     let all : l .state ≡ a .t .states = omega (arith, l .inv .0, c .if1 .left) in
-    subst (λ n. UnitedTo (a .input .now) (a .t) (a .work .now) n (a .batch .now) (l .made) (l .batch)) all (l .inv .5)
+    subst (λ n. UnitesTo (a .t) (a .lists .now) (a .work .now) n (a .batch .now) (l .made) (l .batch)) all (l .inv .5)
 
 pub unite-roots-spec : {M : Type 1} → statement M
 unite-roots-spec =

@@ -26,18 +26,21 @@ enum-known-query c = search needs
 
 start-requires : tie.Need-start-requires
 start-requires c κs =
-    let query = c .before .before in
+    let query = c .before .before .before in
     let read = query .before .before in
     let tree = read .before .before in (
       sym (ap saysTree (tree .tree .given .1)) ∙ tree .before .before .read-tree .ensures,
-      sym (ap saysQuery (query .query .given .1)) ∙ read .read-query .ensures,
+      (
+        sym (ap saysQuery (query .query .given .1)) ∙ read .read-query .ensures,
+        tree .before .before .before .before .before .before .pre,
+      ),
     )
 
 returns : tie.Need-returns
 returns c =
     let why = c .before in
     let read = why .before .before in
-    let a = read .before .before .before .args in
+    let a = read .before .before .before .before .args in
     let (refuses, few) = tree-refused (a .input .now) _ (a .entries) (sym (ap saysTree (why .why .given .1)) ∙ read .read-tree .ensures) in
     (refuses, few, refl)
 
@@ -46,7 +49,7 @@ returns-2 c =
     let why = c .before in
     let read = why .before .before in
     let tree = read .before .before in
-    let a = tree .before .before .before .before .before .args in
+    let a = tree .before .before .before .before .before .before .args in
     let (refuses, few) = query-refused-at (a .input .now) _ (a .entries)
     (sym (ap saysTree (tree .tree .given .1)) ∙ tree .before .before .read-tree .ensures)
     (sym (ap saysQuery (why .why2 .given .1)) ∙ read .read-query .ensures) in
@@ -54,6 +57,9 @@ returns-2 c =
 
 same-length : tie.Need-same-length
 same-length c = search needs
+
+same-length-2 : tie.Need-same-length-2
+same-length-2 c = search needs
 
 returns-3 : tie.Need-returns-3
 returns-3 c = search needs
@@ -72,4 +78,5 @@ begin-spec =
     returns
     returns-2
     same-length
+    same-length-2
     returns-3)
