@@ -1,9 +1,10 @@
 #!/usr/bin/env bash
-# Compares the library, through the driver, and its programs with independent ones, on many streams, questions, texts and images:
+# Compares the library, through the driver, and its programs with independent ones, on many streams, questions, texts and images, and
+# on the real streams of tests/fortran, whose rows are counted there:
 # `records` follows document 01 with plain vectors, `markings` tries all markings, `texts` follows request 2026-01 with a tree of nodes.
 # The last line is 'N passed, M failed'.
 #   bash tests/compare.sh [WORDS ..]         WORDS go to the comparison, as --seed 5; --stream 17, --listing 17, --group 17, --text 17,
-#                                            --image 17 or --typed 17 shows one case
+#                                            --image 17, --typed 17 or --pair 17 shows one case
 #   bash tests/compare.sh alone [WORDS ..]   the independent programs with each other: the test of the tests, with no driver, no
 #                                            library and no program
 # TARN_ARCHIVE=FILE takes another archive than that of crate `tarnsatchel`, TARN_PROGRAM=FILE another program than that of crate `list`,
@@ -15,11 +16,12 @@ cd "$(dirname "$0")/.." || exit 2
 rust_library markings
 rust_library records
 rust_library texts
+rust_library fortran
 rust_program markings tests/markings/main.rs --extern markings="$out/libmarkings.rlib"
 rust_program records tests/records/main.rs --extern records="$out/librecords.rlib"
 rust_program texts tests/texts/main.rs --extern texts="$out/libtexts.rlib"
 rust_program compare tests/compare/main.rs --extern markings="$out/libmarkings.rlib" --extern records="$out/librecords.rlib" \
-    --extern texts="$out/libtexts.rlib"
+    --extern texts="$out/libtexts.rlib" --extern fortran="$out/libfortran.rlib"
 if [ "${1:-}" = alone ]; then
     shift
     exec "$out/compare" "$@"

@@ -3,7 +3,7 @@
 const SEED: u64 = 20_260_101;
 
 const USAGE: &str = "usage: compare [--seed N] [--stream N] [--listing N] [--group N] [--text N] [--image N] [--typed N] \
-                     [DRIVER .. -- LIST .. -- TREE ..]";
+                     [--pair N] [DRIVER .. -- LIST .. -- TREE ..]";
 
 /// The numbers are those of cases to be shown, and nothing is compared then.
 #[derive(Default)]
@@ -15,6 +15,7 @@ pub struct Arguments {
     pub text: Option<usize>,
     pub image: Option<usize>,
     pub typed: Option<usize>,
+    pub pair: Option<usize>,
     pub driver: Vec<String>,
     pub list: Vec<String>,
     pub tree: Vec<String>,
@@ -49,6 +50,7 @@ impl Arguments {
             (Some("--text"), Some(_)) => self.text = case,
             (Some("--image"), Some(_)) => self.image = case,
             (Some("--typed"), Some(_)) => self.typed = case,
+            (Some("--pair"), Some(_)) => self.pair = case,
             _ => panic!("{USAGE}"),
         }
     }

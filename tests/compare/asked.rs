@@ -10,10 +10,11 @@ use crate::verdict::{same, Verdict};
 
 pub struct QuestionTrial {
     pub kind: &'static str,
-    /// The group's number, and the question's in it.
-    pub group: usize,
-    pub number: usize,
+    /// By which it is shown: --group or --pair, the number, and what else finds it.
+    pub label: String,
     pub asked: Asked,
+    /// The answer to a count, where another way than those here has counted the rows.
+    pub counted: Option<u64>,
 }
 
 impl Trial for QuestionTrial {
@@ -37,6 +38,7 @@ impl QuestionTrial {
         if self.asked.promised {
             same("answer that is promised", left.answer, 0)?;
         }
+        self.counted.map_or(Ok(()), |rows| by_rows::check_count(left, rows))?;
         self.asked.rows.as_ref().map_or(Ok(()), |rows| by_rows::check(&self.asked.asking, left, rows))
     }
 }

@@ -7,9 +7,12 @@ use crate::verdict::{same, Verdict};
 use records::set::{is_sound, Row, UNION};
 use records::Record;
 
+/// Behind the head, the table and the work stand the question's own buffers.
+const OWN: usize = 3;
+
 /// `rows` are those that the asked set lists. A refusal but 9 and 12 is not about the rows.
 pub fn check(asking: &Asking, left: &Left, rows: &[Row]) -> Verdict {
-    let own = &left.lent[3..];
+    let own = &left.lent[OWN..];
     match (&asking.question, left.answer) {
         (Question::Count { .. }, 0) => same("count and the rows", own[0].numbers(), &[rows.len() as u64]),
         (Question::Row { number, .. }, 0) => {
@@ -29,6 +32,11 @@ pub fn check(asking: &Asking, left: &Left, rows: &[Row]) -> Verdict {
         (Question::Fix { place, node, .. }, 12) => same("refused 12", unites_units(&asking.set, *place, *node), true),
         _ => Ok(()),
     }
+}
+
+/// The same for a set of which only the number of rows is known.
+pub fn check_count(left: &Left, rows: u64) -> Verdict {
+    same("count and rows.txt", left.lent[OWN].numbers(), &[rows])
 }
 
 /// A node is marked exactly if it stands at the place in some row.

@@ -26,7 +26,7 @@ pub struct Seen {
 
 pub struct StreamTrial {
     pub case: Case,
-    /// By which it is shown: --stream or --text, and the number.
+    /// By which it is shown: --stream, --text or --pair, the number, and what else finds it.
     pub label: String,
 }
 

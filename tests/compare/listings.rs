@@ -1,10 +1,11 @@
-//! The streams that go through the listing program: random ones, those of the library's limits, and the program's own limits: an
-//! input of 16,384 bytes, a work of 16,384 numbers, a table of 2,000 records, a text that fills its buffer.
+//! The streams that go through the listing program: random ones, those of the library's limits, the real ones, and the program's own
+//! limits: an input of 16,384 bytes, a work of 16,384 numbers, a table of 2,000 records, a text that fills its buffer.
 
 use crate::damage::{any_bytes, byte_changed, byte_dropped, byte_put_in, cut, record_moved};
 use crate::limits::{self, different_rules, making, q, tree_for_q, MOST_LEAVES, TREE_B};
 use crate::numbered::{Kinds, Numbered};
 use crate::random::Random;
+use crate::real;
 use crate::streams::{
     any_places_seen, any_shape, any_valid, any_with_q, balanced, dense, grown, labelled, labels_of_q, left_comb, places_seen,
     right_comb, Query, Stream, ACCEPTING, BRANCH, BRANCH_RULE, HEAD, LEAF, LEAF_RULE, MOST_RULES,
@@ -53,6 +54,8 @@ pub fn all(seed: u64) -> Listings {
     most_work(&mut all);
     most_records(&mut all);
     full_buffers(&mut all);
+    // of the larger ones the program says only that they make more records than it has room for
+    all.extend(fortran::pairs().into_iter().map(|pair| (real::KIND, pair.input)));
     Numbered::of(seed, RANDOM, all, |random, (kind, input)| Listing::of(kind, random, |_| input.clone()))
 }
 

@@ -1,4 +1,4 @@
-//! All that is made from a seed, and how one case of it is shown.
+//! All that is made from a seed, the real streams with what is lent to them too, and how one case of it is shown.
 
 use crate::arguments::Arguments;
 use crate::cases::{self, Case, Cases};
@@ -7,6 +7,7 @@ use crate::image_cases;
 use crate::listings::{self, Listing, Listings};
 use crate::queried;
 use crate::questions::{self, Group, Groups};
+use crate::real::RealStreams;
 use crate::text_cases;
 use crate::typed::{self, Typed, TypedTexts};
 
@@ -17,6 +18,7 @@ pub struct Made {
     pub texts: Conversions,
     pub images: Conversions,
     pub typed: TypedTexts,
+    pub real: RealStreams,
 }
 
 impl Made {
@@ -28,6 +30,7 @@ impl Made {
             texts: text_cases::all(seed),
             images: image_cases::all(seed),
             typed: typed::all(seed),
+            real: RealStreams::all(seed),
         }
     }
 
@@ -35,7 +38,7 @@ impl Made {
         let streams =
             format!("{} streams, {} listings, {} groups of questions", self.cases.len(), self.listings.len(), self.groups.len());
         let texts = format!("{} texts, {} images, {} typed texts", self.texts.len(), self.images.len(), self.typed.len());
-        format!("{streams}, {texts}")
+        format!("{streams}, {texts}, {} real streams", self.real.len())
     }
 
     /// Prints the cases that were asked for; whether there were any.
@@ -47,6 +50,7 @@ impl Made {
             asked.text.map(|number| show_text(&self.texts.make(number), number)),
             asked.image.map(|number| show_conversion(&self.images.make(number))),
             asked.typed.map(|number| show_typed(&self.typed.make(number))),
+            asked.pair.map(|number| show_pair(&self.real, number)),
         ];
         shown.iter().any(Option::is_some)
     }
@@ -56,6 +60,11 @@ fn show_stream(case: &Case) {
     println!("{}\ninput {:?}", case.kind, case.input);
     println!("head {:?}\nwork {:?}\ntable {:?}", case.head, case.work, case.table);
     println!("{:?}", records::build(&case.input, &case.work, &case.table));
+}
+
+fn show_pair(real: &RealStreams, number: usize) {
+    println!("{}, {} rows", real.label(number), real.rows(number));
+    show_stream(&real.case(number));
 }
 
 fn show_listing(case: &Listing) {

@@ -1,13 +1,14 @@
-//! Compares the library with the independent programs, on many streams, questions, texts and images made from a seed, and these
-//! programs with each other.
+//! Compares the library with the independent programs, on many streams, questions, texts and images made from a seed and on real
+//! streams, and these programs with each other.
 //!
-//!     compare [--seed N] [--stream N] [--listing N] [--group N] [--text N] [--image N] [--typed N] [DRIVER .. -- LIST .. -- TREE ..]
+//!     compare [--seed N] [--stream N] [--listing N] [--group N] [--text N] [--image N] [--typed N] [--pair N]
+//!             [DRIVER .. -- LIST .. -- TREE ..]
 //!
 //! DRIVER is the command that runs the driver, LIST and TREE those that run the programs; without them the independent programs are
 //! compared with each other, and with what is known from how an input was made, which is the test of the tests. `--stream N` prints
 //! that stream, `--listing N` that stream of the program and its text, `--group N` that group of questions, `--text N` and `--image N`
 //! that text or image and what is written, and the stream where the text is built with a query too, `--typed N` that text of the
-//! program. The last line is 'N passed, M failed'.
+//! program, `--pair N` that stream of tests/fortran. The last line is 'N passed, M failed'.
 
 mod arguments;
 mod asked;
@@ -34,6 +35,7 @@ mod program;
 mod queried;
 mod questions;
 mod random;
+mod real;
 mod set_damage;
 mod set_limits;
 mod sets;
@@ -55,6 +57,7 @@ use made::Made;
 use program::Program;
 use questions::Group;
 use random::Random;
+use real::RealStreams;
 use std::path::PathBuf;
 use std::process::ExitCode;
 use tally::{Tally, What};
@@ -118,8 +121,13 @@ fn check_calls(made: &Made, driver: Option<&Driver>, tally: &mut Tally) {
         let Group { kind, questions, verdict } = made.groups.make(group);
         tally.own("sets as they were made", &format!("{kind}, group {group}"), verdict);
         for (number, asked) in questions.into_iter().enumerate() {
-            trials.add(Box::new(QuestionTrial { kind, group, number, asked }), tally);
+            let label = format!("group {group} question {number}");
+            trials.add(Box::new(QuestionTrial { kind, label, asked, counted: None }), tally);
         }
+    }
+    tally.own(real::KIND, "rows.txt", made.real.check_number());
+    for number in 0..made.real.len() {
+        add_pair(&made.real, number, &mut trials, tally);
     }
     for number in 0..made.texts.len() {
         add_text(made.texts.make(number), number, &mut trials, tally);
@@ -130,6 +138,15 @@ fn check_calls(made: &Made, driver: Option<&Driver>, tally: &mut Tally) {
     trials.end(tally);
     tally.are_enough("texts", What::Texts, FEWEST_TEXTS);
     tally.are_enough("images", What::Images, FEWEST_IMAGES);
+}
+
+/// Built, and counted.
+fn add_pair(real: &RealStreams, number: usize, trials: &mut Trials, tally: &mut Tally) {
+    trials.add(Box::new(real.build(number)), tally);
+    match real.count(number) {
+        Ok(count) => trials.add(Box::new(count), tally),
+        Err(difference) => tally.own(real::KIND, &real.label(number), Err(difference)),
+    }
 }
 
 /// Of some that are accepted the image is built, with a query behind it.

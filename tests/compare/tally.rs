@@ -144,7 +144,7 @@ impl Tally {
         }
         let lent = format!("head {:?}, table of {}, work of {}", asking.set.head, asking.set.table.len(), asking.work.len());
         let rest = format!(" ({}, {lent})", asking.question.name());
-        self.judge(trial.kind, What::Questions, &format!("group {} question {}", trial.group, trial.number), &rest, verdict);
+        self.judge(trial.kind, What::Questions, &trial.label, &rest, verdict);
     }
 
     pub fn conversion(&mut self, what: What, case: &Conversion, number: usize, answer: u8, verdict: Verdict) {
