@@ -1,6 +1,11 @@
 //! The benchmark's ordinary Rust program: the same build as the library's, records and slots in Vec, and the questions answered plainly,
-//! with no checks and no proof. It takes the stream's bytes, as the library does, so that reading is timed on both sides.
+//! with no proof. A build checks that no rule is said twice, or not even that. It takes the stream's bytes, as the library does, so that
+//! reading is timed on both sides.
 
+mod reading;
+
+use reading::{read, BranchRule, LeafRule, Query, Symbol};
+use std::collections::HashSet;
 use tarnsatchel::{Head, Record, Set, BLANK};
 
 pub const SINGLE: u16 = 1;
@@ -14,70 +19,13 @@ pub struct Built {
     pub records: Vec<Record>,
 }
 
-#[derive(Clone, Copy)]
-enum Symbol {
-    Leaf(u8),
-    Branch(u8),
-}
-
-#[derive(Clone, Copy)]
-enum Rule {
-    Leaf { label: u8, flag: u16, state: usize },
-    Branch { label: u8, flag: u16, left: usize, right: usize, state: usize },
-}
-
-#[derive(Default)]
-struct Query {
-    arity: usize,
-    states: usize,
-    rules: Vec<Rule>,
-    accepting: Vec<usize>,
-}
-
-fn read(input: &[u8]) -> (Vec<Symbol>, Query) {
-    let (mut tree, mut query, mut at) = (Vec::new(), Query::default(), 0);
-    while at < input.len() {
-        let body = &input[at + 1..];
-        at += match input[at] {
-            1 => {
-                tree.push(Symbol::Leaf(body[0]));
-                2
-            }
-            2 => {
-                tree.push(Symbol::Branch(body[0]));
-                2
-            }
-            16 => {
-                query.arity = body[0] as usize;
-                query.states = body[1] as usize;
-                3
-            }
-            17 => {
-                query.rules.push(Rule::Leaf { label: body[0], flag: body[1] as u16, state: body[2] as usize });
-                4
-            }
-            18 => {
-                let (left, right, state) = (body[2] as usize, body[3] as usize, body[4] as usize);
-                query.rules.push(Rule::Branch { label: body[0], flag: body[1] as u16, left, right, state });
-                6
-            }
-            _ => {
-                query.accepting.push(body[0] as usize);
-                2
-            }
-        };
-    }
-    query.accepting.sort();
-    (tree, query)
-}
-
-struct Building {
-    query: Query,
+struct Building<'a> {
+    query: &'a Query,
     node: u16,
     records: Vec<Record>,
 }
 
-impl Building {
+impl Building<'_> {
     fn new_record(&mut self, kind: u16, left: u16, right: u16, flag: u16) -> Set {
         self.records.push(Record { kind, node: self.node, left, right, flag });
         Set::Record((self.records.len() - 1) as u16)
@@ -115,29 +63,21 @@ impl Building {
         vec![Set::Empty; self.query.states << self.query.arity]
     }
 
-    fn leaf(&mut self, of: u8) -> Vec<Set> {
-        let mut slots = self.empty_slots();
-        for i in 0..self.query.rules.len() {
-            if let Rule::Leaf { label, flag, state } = self.query.rules[i] {
-                if label == of {
-                    let at = self.slot(state, flag);
-                    slots[at] = self.single(flag);
-                }
-            }
+    fn leaf(&mut self, label: u8) -> Vec<Set> {
+        let (query, mut slots) = (self.query, self.empty_slots());
+        for &LeafRule { flag, state } in &query.leaf_rules[label as usize] {
+            let at = self.slot(state, flag);
+            slots[at] = self.single(flag);
         }
         slots
     }
 
-    fn branch(&mut self, of: u8, lefts: &[Set], rights: &[Set]) -> Vec<Set> {
-        let mut slots = self.empty_slots();
-        for i in 0..self.query.rules.len() {
-            if let Rule::Branch { label, flag, left, right, state } = self.query.rules[i] {
-                if label == of {
-                    let (lefts, rights) = (&lefts[self.slot(left, 0)..], &rights[self.slot(right, 0)..]);
-                    let to = self.slot(state, 0);
-                    self.splits(flag, lefts, rights, &mut slots[to..]);
-                }
-            }
+    fn branch(&mut self, label: u8, lefts: &[Set], rights: &[Set]) -> Vec<Set> {
+        let (query, mut slots) = (self.query, self.empty_slots());
+        for &BranchRule { flag, left, right, state } in &query.branch_rules[label as usize] {
+            let (lefts, rights) = (&lefts[self.slot(left, 0)..], &rights[self.slot(right, 0)..]);
+            let to = self.slot(state, 0);
+            self.splits(flag, lefts, rights, &mut slots[to..]);
         }
         slots
     }
@@ -186,12 +126,25 @@ impl Building {
     }
 }
 
+/// None where a rule is said twice.
 #[inline(never)]
-pub fn build(input: &[u8]) -> Built {
-    let (tree, query) = read(input);
+pub fn build(input: &[u8]) -> Option<Built> {
+    let mut said = HashSet::new();
+    let (tree, query) = read(input, |left_side| said.insert(left_side))?;
+    Some(build_of(&tree, &query))
+}
+
+/// Of a stream that is known to say no rule twice.
+#[inline(never)]
+pub fn build_unchecked(input: &[u8]) -> Built {
+    let (tree, query) = read(input, |_| true).expect("every rule is taken for a new one");
+    build_of(&tree, &query)
+}
+
+fn build_of(tree: &[Symbol], query: &Query) -> Built {
     let (nodes, arity) = (tree.len() as u16, query.arity as u16);
     let mut building = Building { query, node: 0, records: Vec::new() };
-    let set = building.tree(&tree);
+    let set = building.tree(tree);
     let records = building.records;
     Built { head: Head { nodes, arity, open_places: (1 << arity) - 1, used: records.len() as u16, set }, records }
 }

@@ -1,6 +1,9 @@
 //! Times both conversions on written trees of 2,047 nodes: the library, and the ordinary program with a tree of nodes (nodes.rs).
 
-use crate::{nodes, print_line, Times, LIBRARY, ORDINARY, TURNS};
+use crate::nodes;
+use crate::random::Random;
+use crate::times::{print_line, print_titles, Times, LIBRARY, ORDINARY};
+use crate::TURNS;
 
 const NODES: usize = 2_047;
 
@@ -8,6 +11,7 @@ const NODES: usize = 2_047;
 const MOST_BYTES: usize = 4 * NODES + 2;
 
 pub fn time_all() {
+    print_titles("bracketed texts", &["ordinary"]);
     for (name, text) in texts() {
         let tree = nodes::text_to_tree(&text).expect("a written tree");
         let name = format!("{NODES} written nodes, {name}");
@@ -17,7 +21,7 @@ pub fn time_all() {
 }
 
 fn text_to_tree(text: &[u8]) -> Times {
-    let (mut times, mut tree) = (Times::default(), [0; MOST_BYTES]);
+    let (mut times, mut tree) = (Times::of_single_calls(), [0; MOST_BYTES]);
     for _ in 0..TURNS {
         let written = times.of(LIBRARY, || tarnsatchel::text_to_tree(text, &mut tree));
         let ordinary = times.of(ORDINARY, || nodes::text_to_tree(text)).expect("a written tree");
@@ -27,7 +31,7 @@ fn text_to_tree(text: &[u8]) -> Times {
 }
 
 fn tree_to_text(tree: &[u8]) -> Times {
-    let (mut times, mut text) = (Times::default(), [0; MOST_BYTES]);
+    let (mut times, mut text) = (Times::of_single_calls(), [0; MOST_BYTES]);
     for _ in 0..TURNS {
         let written = times.of(LIBRARY, || tarnsatchel::tree_to_text(tree, &mut text));
         let ordinary = times.of(ORDINARY, || nodes::tree_to_text(tree)).expect("an image");
@@ -82,14 +86,4 @@ fn text_of(depths: &[usize], random: &mut Random, behind: fn(&mut Random) -> &'s
 /// Lines that are indented, with a comment now and then.
 fn typed(random: &mut Random) -> &'static str {
     ["", "\n    ", "\n        ", " ", " ! title // ' in '\n    "][random.below(5)]
-}
-
-/// The same numbers in every run.
-struct Random(u64);
-
-impl Random {
-    fn below(&mut self, end: usize) -> usize {
-        self.0 = self.0.wrapping_mul(6_364_136_223_846_793_005).wrapping_add(1_442_695_040_888_963_407);
-        (self.0 >> 33) as usize % end
-    }
 }
