@@ -1,6 +1,6 @@
 //! Times the library's functions in turns with ordinary programs and, for the questions, with plain passes that make the same checks,
-//! and holds their answers together. Prints tables of medians in nanoseconds: builds, also as nodes, rules and arity grow, the
-//! questions, and the conversions between a text and a tree.
+//! and holds their answers together. Prints tables of medians in nanoseconds: builds, also as nodes, rules and arity grow and of real
+//! streams, the questions, and the conversions between a text and a tree.
 
 mod builds;
 mod nodes;
@@ -8,14 +8,16 @@ mod ordinary;
 mod plain;
 mod questions;
 mod random;
+mod real;
 mod texts;
 mod times;
 mod workloads;
 
 use builds::{Buffers, BUILD_TURNS};
+use random::Random;
 use tarnsatchel::MOST_RECORDS;
 use times::{print_line, print_titles};
-use workloads::{comb, places_seen, query_q, query_q_behind, rule_said_twice, RULES_OF_Q};
+use workloads::{any_shape, any_states, comb, every_left_side, places_seen, query_q, query_q_behind, rule_said_twice, RULES_OF_Q};
 
 /// How often each call but a build is timed.
 const TURNS: usize = 301;
@@ -34,11 +36,19 @@ fn main() {
         print_line(&name, "build and count", builds::time_build_and_count(&input, &mut buffers));
         print_line(&name, "build", builds::time_build(&input, &mut buffers));
     }
-    print_titles("as nodes, rules and arity grow", &["ordinary", "unchecked"]);
-    for (name, input) in growth() {
-        let name = with_records(name, &input, &mut buffers);
-        print_line(&name, "build and count", builds::time_build_and_count(&input, &mut buffers));
+    for (title, all) in [
+        ("as nodes and arity grow", growth()),
+        ("many rules: of many labels, of one", many_rules()),
+        ("random shapes, most slots filled", random_shapes()),
+    ] {
+        print_titles(title, &["ordinary", "unchecked"]);
+        for (name, input) in all {
+            let name = with_records(name, &input, &mut buffers);
+            print_line(&name, "build and count", builds::time_build_and_count(&input, &mut buffers));
+        }
     }
+    print_titles("real streams", &["ordinary", "unchecked"]);
+    real::time_all(&mut buffers);
     println!("questions: 'plain' makes the library's checks and clears the work");
     print_titles("set", &["ordinary", "plain"]);
     for (name, input) in sets() {
@@ -60,9 +70,7 @@ fn sets() -> Vec<Named> {
 
 fn growth() -> Vec<Named> {
     let arity = [1, 2, 3, 4].map(|arity| (format!("129 nodes, arity {arity}"), [comb_of(129), places_seen(arity)].concat()));
-    let rules = [11, 128, 512, 1_024]
-        .map(|rules| (format!("1001 nodes, {rules} rules"), [comb_of(1_001), query_q_behind(rules - RULES_OF_Q)].concat()));
-    [501, 1_001, 2_001, 4_095].map(with_q).into_iter().chain(rules).chain(arity).collect()
+    [501, 1_001, 2_001, 4_095].map(with_q).into_iter().chain(arity).collect()
 }
 
 fn with_q(nodes: usize) -> Named {
@@ -72,4 +80,25 @@ fn with_q(nodes: usize) -> Named {
 /// So many nodes, an odd number.
 fn comb_of(nodes: usize) -> Vec<u8> {
     comb(nodes.div_ceil(2))
+}
+
+fn many_rules() -> Vec<Named> {
+    let spread = |nodes: usize, rules: usize| {
+        (format!("{nodes} nodes, {rules} rules"), [comb_of(nodes), query_q_behind(rules - RULES_OF_Q)].concat())
+    };
+    let of_one = |nodes: usize| (format!("{nodes} nodes, 1024 rules of one label"), [comb_of(nodes), every_left_side()].concat());
+    let all = [3, 63, 1_001].into_iter().flat_map(|nodes| [11, 128, 512, 1_024].map(|rules| spread(nodes, rules)));
+    all.chain([63, 1_001].map(of_one)).collect()
+}
+
+/// Arity and states such that the records fit, and of the branches' slots some seven, nine and eight in ten are filled.
+fn random_shapes() -> Vec<Named> {
+    const LEAVES: usize = 151;
+    let mut random = Random(2026);
+    [(2, 4), (3, 2), (3, 3)]
+        .map(|(arity, states)| {
+            let (tree, query) = (any_shape(&mut random, LEAVES), any_states(&mut random, arity, states));
+            (format!("{} nodes, arity {arity}, {states} states", tree.len() / 2), [tree, query].concat())
+        })
+        .to_vec()
 }

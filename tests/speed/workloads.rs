@@ -1,4 +1,7 @@
-//! What is timed: combs of any number of leaves, with the paper's query Q or with one whose states are the places seen so far.
+//! What is timed: combs of any number of leaves, with the paper's query Q, alone or behind rules for other labels, with one whose states
+//! are the places seen so far, or with one that has every left side of a label; and trees of random shape with random rules.
+
+use crate::random::Random;
 
 const LEAF: u8 = 1;
 const BRANCH: u8 = 2;
@@ -27,11 +30,15 @@ pub fn query_q() -> Vec<u8> {
     query_q_behind(0)
 }
 
-/// Q behind so many branch rules that match no node.
+/// Q behind so many branch rules that match no node: they are spread over all labels above those of a comb, in turn.
 pub fn query_q_behind(rules: usize) -> Vec<u8> {
+    const FIRST_LABEL: usize = 10;
+    const OTHER_LABELS: usize = 64 - FIRST_LABEL;
+    // of Q's four states, and of as many flags
     let mut query = vec![HEAD, 2, 4];
     for number in 0..rules {
-        let (label, flag, left, right) = (10 + number / 64, number / 16 % 4, number / 4 % 4, number % 4);
+        let (label, left_side) = (FIRST_LABEL + number % OTHER_LABELS, number / OTHER_LABELS);
+        let (flag, left, right) = (left_side / 16, left_side / 4 % 4, left_side % 4);
         query.extend([BRANCH_RULE, label as u8, flag as u8, left as u8, right as u8, 0]);
     }
     for (flag, state) in [(0, 0), (1, 1), (2, 3)] {
@@ -65,4 +72,68 @@ pub fn places_seen(arity: usize) -> Vec<u8> {
     }
     query.extend([ACCEPTING, flags - 1]);
     query
+}
+
+/// 1,024 rules, all for the labels of a comb: for each of four flags a leaf rule and, behind it, a branch rule for each of 256 pairs of
+/// states but the last. A state is the places seen at leaves, and times four those seen at branches, so every row is accepted. Of the
+/// pairs at a branch most have nothing on one side: a leaf has four states, the tree so far nine.
+pub fn every_left_side() -> Vec<u8> {
+    const FLAGS: u8 = 4;
+    const STATES: u8 = 16;
+    let mut query = vec![HEAD, 2, STATES];
+    for own in 0..FLAGS {
+        query.extend([LEAF_RULE, COMB_LEAF, own, own]);
+        for (left, right) in (0..u8::MAX).map(|pair| (pair / STATES, pair % STATES)) {
+            query.extend([BRANCH_RULE, COMB_BRANCH, own, left, right, left | right | own * FLAGS]);
+        }
+    }
+    for state in (0..STATES).filter(|state| state % FLAGS | state / FLAGS == FLAGS - 1) {
+        query.extend([ACCEPTING, state]);
+    }
+    query
+}
+
+// ---- random shapes
+
+/// Leaves and branches both have labels below this one.
+const RANDOM_LABELS: usize = 3;
+
+/// Leaves come and subtrees are joined as often as each other.
+pub fn any_shape(random: &mut Random, leaves: usize) -> Vec<u8> {
+    let (mut tree, mut unjoined, mut left) = (Vec::new(), 0, leaves);
+    while left > 0 || unjoined > 1 {
+        let joins = unjoined > 1 && (left == 0 || random.below(2) == 0);
+        if joins {
+            unjoined -= 1;
+        } else {
+            unjoined += 1;
+            left -= 1;
+        }
+        tree.extend([if joins { BRANCH } else { LEAF }, random.below(RANDOM_LABELS) as u8]);
+    }
+    tree
+}
+
+/// Every left side has a rule, so every row has a run. Of one label and flag no two rules with the same left state name the same state,
+/// nor two with the same right state: runs that differ below a node differ above it too, and fill many states.
+pub fn any_states(random: &mut Random, arity: usize, states: usize) -> Vec<u8> {
+    let mut query = vec![HEAD, arity as u8, states as u8];
+    for (label, flag) in (0..RANDOM_LABELS as u8).flat_map(|label| (0..1 << arity).map(move |flag| (label, flag))) {
+        query.extend([LEAF_RULE, label, flag, random.below(states) as u8]);
+        let named = any_order(random, states);
+        for (left, right) in (0..states).flat_map(|left| (0..states).map(move |right| (left, right))) {
+            query.extend([BRANCH_RULE, label, flag, left as u8, right as u8, named[(left + right) % states]]);
+        }
+    }
+    query.extend((0..states as u8 / 2).flat_map(|state| [ACCEPTING, state]));
+    query
+}
+
+/// The states, each once.
+fn any_order(random: &mut Random, states: usize) -> Vec<u8> {
+    let mut order: Vec<u8> = (0..states as u8).collect();
+    for end in (1..states).rev() {
+        order.swap(end, random.below(end + 1));
+    }
+    order
 }
