@@ -3,6 +3,7 @@
 //! streams, the questions, and the conversions between a text and a tree.
 
 mod builds;
+mod kinds;
 mod nodes;
 mod ordinary;
 mod plain;

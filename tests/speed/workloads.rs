@@ -1,14 +1,8 @@
 //! What is timed: combs of any number of leaves, with the paper's query Q, alone or behind rules for other labels, with one whose states
 //! are the places seen so far, or with one that has every left side of a label; and trees of random shape with random rules.
 
+use crate::kinds::{ACCEPTING, BRANCH, BRANCH_RULE, HEAD, LEAF, LEAF_RULE};
 use crate::random::Random;
-
-const LEAF: u8 = 1;
-const BRANCH: u8 = 2;
-const HEAD: u8 = 16;
-const LEAF_RULE: u8 = 17;
-const BRANCH_RULE: u8 = 18;
-const ACCEPTING: u8 = 19;
 
 /// The labels of a comb's leaves and branches, for which Q has its rules.
 const COMB_LEAF: u8 = 5;
@@ -74,16 +68,18 @@ pub fn places_seen(arity: usize) -> Vec<u8> {
     query
 }
 
-/// 1,024 rules, all for the labels of a comb: for each of four flags a leaf rule and, behind it, a branch rule for each of 256 pairs of
-/// states but the last. A state is the places seen at leaves, and times four those seen at branches, so every row is accepted. Of the
-/// pairs at a branch most have nothing on one side: a leaf has four states, the tree so far nine.
+/// 1,024 rules, all for the labels of a comb: for each of four flags a leaf rule and, behind it, a branch rule for each pair of 16 states
+/// but the last. A state is the places seen at leaves, and times four those seen at branches, so every row is accepted. Of the pairs at
+/// a branch most have nothing on one side: a leaf has four states, the tree so far at most nine.
 pub fn every_left_side() -> Vec<u8> {
     const FLAGS: u8 = 4;
     const STATES: u8 = 16;
+    let pairs = (0..STATES).flat_map(|left| (0..STATES).map(move |right| (left, right)));
+    let all_but_the_last = pairs.clone().count() - 1;
     let mut query = vec![HEAD, 2, STATES];
     for own in 0..FLAGS {
         query.extend([LEAF_RULE, COMB_LEAF, own, own]);
-        for (left, right) in (0..u8::MAX).map(|pair| (pair / STATES, pair % STATES)) {
+        for (left, right) in pairs.clone().take(all_but_the_last) {
             query.extend([BRANCH_RULE, COMB_BRANCH, own, left, right, left | right | own * FLAGS]);
         }
     }

@@ -1,5 +1,7 @@
 //! How the ordinary program reads a stream: the tree's symbols in a Vec, and the rules in a Vec for each label.
 
+use crate::kinds::{ACCEPTING, BRANCH, BRANCH_RULE, HEAD, LEAF, LEAF_RULE};
+
 const LABELS: usize = 64;
 
 #[derive(Clone, Copy)]
@@ -40,20 +42,20 @@ impl Query {
     /// Takes a record, and says how long it is.
     fn take(&mut self, record: &[u8]) -> usize {
         match *record {
-            [16, arity, states, ..] => {
+            [HEAD, arity, states, ..] => {
                 (self.arity, self.states) = (arity as usize, states as usize);
                 3
             }
-            [17, label, flag, state, ..] => {
+            [LEAF_RULE, label, flag, state, ..] => {
                 self.leaf_rules[label as usize].push(LeafRule { flag: flag as u16, state: state as usize });
                 4
             }
-            [18, label, flag, left, right, state, ..] => {
+            [BRANCH_RULE, label, flag, left, right, state, ..] => {
                 let (left, right, state) = (left as usize, right as usize, state as usize);
                 self.branch_rules[label as usize].push(BranchRule { flag: flag as u16, left, right, state });
                 6
             }
-            [19, state, ..] => {
+            [ACCEPTING, state, ..] => {
                 self.accepting.push(state as usize);
                 2
             }
@@ -67,18 +69,18 @@ pub fn read<'a>(input: &'a [u8], mut is_new: impl FnMut(&'a [u8]) -> bool) -> Op
     let (mut tree, mut query, mut at) = (Vec::new(), Query::new(), 0);
     while at < input.len() {
         at += match input[at] {
-            1 => {
+            LEAF => {
                 tree.push(Symbol::Leaf(input[at + 1]));
                 2
             }
-            2 => {
+            BRANCH => {
                 tree.push(Symbol::Branch(input[at + 1]));
                 2
             }
             kind => {
                 let length = query.take(&input[at..]);
                 // its last byte is the state that it names
-                if (kind == 17 || kind == 18) && !is_new(&input[at..at + length - 1]) {
+                if (kind == LEAF_RULE || kind == BRANCH_RULE) && !is_new(&input[at..at + length - 1]) {
                     return None;
                 }
                 length
