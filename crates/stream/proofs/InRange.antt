@@ -1,21 +1,21 @@
 -- The numbers of a record behind the head, in range: for each kind its test, said of the bytes.
 use mathlib.Core.Bool.{Bool, _&&_, cond, false, true}
 use mathlib.Core.List.{List}
-use mathlib.Core.Logic.{⊎-elim}
 use mathlib.Core.Path.{_∙_, _≡_, ap, refl, sym}
 use Prim.Native.Nat.{_+_, _<_, _^_, _≤_, ℕ}
 use native.Mathlib.Omega.{arith}
-use borrow.Author.Tests.{eq-eqb, eqb-false, eqb-true, leb-true}
-use lib.Dec.{eqb, leb, ltb}
+use borrow.Author.Tests.{eqb-true}
+use lib.Dec.{leb, ltb}
 use lib.ListN.{drop, getD, length}
 use Rattle.paper.specs.Lists.{allBelow}
 use Rattle.paper.specs.Query.{isRuleKind}
 use Rattle.paper.specs.Stream.{bodyLength, number, whole}
-use Rattle.laws.proofs.Lists.{both-true, not-then-false, or-left, or-right, which}
+use Rattle.laws.proofs.Lists.{not-then-false}
 use Rattle.laws.proofs.StreamPlaces.{made-of}
 use Rattle.stream.specs.OneRecord.{fits, wholeInRange}
 use Rattle.stream.specs.Positions.{recordAt}
 use Rattle.stream.specs.Reading.{QueryFacts}
+use Rattle.stream.proofs.Fitting.{by-kind}
 use Rattle.stream.proofs.Positions.{cut-here, number-byte, whole-here}
 
 -- ---- tests joined in another order
@@ -112,27 +112,8 @@ module _ (input : List ℕ) (f : QueryFacts) (at : ℕ) where
   known-kind k e h = sym (rw (ap (λ n. leb 17 n && leb n 19) e ∙ h) refl)
 
   pub unknown-kind : (getD input at 0 ≡ 17 → ⊥) → (getD input at 0 ≡ 18 → ⊥) → (getD input at 0 ≡ 19 → ⊥) → false ≡ fits f (recordAt input at)
-  unknown-kind a b c = sym (rw out refl)
-    where
-      out : leb 17 (getD input at 0) && leb (getD input at 0) 19 ≡ false
-      out = not-then-false (leb 17 (getD input at 0) && leb (getD input at 0) 19) between
-        where
-          between : leb 17 (getD input at 0) && leb (getD input at 0) 19 ≡ true → ⊥
-          between h =
-              let p = both-true (leb 17 (getD input at 0)) (leb (getD input at 0) 19) h in
-              omega (arith, leb-true 17 (getD input at 0) (p .0), leb-true (getD input at 0) 19 (p .1))
+  unknown-kind a b c = sym (not-then-false (fits f (recordAt input at)) (λ e. by-kind f (recordAt input at) e a b c))
 
   -- a record that fits is an accepting state or a rule
   pub rule-kind : fits f (recordAt input at) ≡ true → (getD input at 0 ≡ 19 → ⊥) → isRuleKind (getD input at 0) ≡ true
-  rule-kind e n =
-      ⊎-elim (or-left (eqb k 17) (eqb k 18)) (λ c. or-right (eqb k 17) (eqb k 18) (eq-eqb k 18 (branch (eqb-false k 17 c))))
-      (which (eqb k 17))
-    where
-      k : ℕ
-      k = getD input at 0
-
-      kinds : (leb 17 k ≡ true) × (leb k 19 ≡ true)
-      kinds = both-true (leb 17 k) (leb k 19) (both-true (leb 17 k && leb k 19) (wholeInRange f (recordAt input at)) e .0)
-
-      branch : (k ≡ 17 → ⊥) → k ≡ 18
-      branch m = omega (arith, leb-true 17 k (kinds .0), leb-true k 19 (kinds .1))
+  rule-kind e n = by-kind f (recordAt input at) e (λ w. ap isRuleKind w) (λ w. ap isRuleKind w) (λ w. absurd (n w))

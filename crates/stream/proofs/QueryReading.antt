@@ -51,7 +51,7 @@ module _ (input : List ℕ) (f : QueryFacts) (s : QueryState) (k : QuerySoFar in
 
   module _ (here : s .at < length input) where
     pub at-record : BehindHead input f → AtLaterRecord input f s
-    at-record h = record { few-places = h .few-places; few-states = h .few-states; before = k .before; state = k .state; here = here }
+    at-record h = record { head = h .head; before = k .before; state = k .state; here = here }
 
     -- one more record that passes
     pub query-goes-on : (next : QueryState) → answer next ≡ queryStep input f (s .at) → QuerySoFar input f next × (s .at < next .at)
@@ -149,8 +149,10 @@ module _ (input : List ℕ) (at : ℕ) where
 
     in-range : BehindHead input facts
     in-range = record {
-      few-places = omega (arith, arity, at-most (number head 0) 4 (p .1 .1 .1 .0));
-      few-states = omega (arith, states, at-most (number head 1) 16 (p .1 .1 .1 .1 .0));
+      head = record {
+        few-places = omega (arith, arity, at-most (number head 0) 4 (p .1 .1 .1 .0));
+        few-states = omega (arith, states, at-most (number head 1) 16 (p .1 .1 .1 .1 .0));
+      };
       inside = omega (arith, two-numbers, whole-inside input at inside (p .1 .1 .0));
     }
 

@@ -119,18 +119,18 @@ module _ (input : List ℕ) (f : QueryFacts) (s : QueryState) (k : AtLaterRecord
 
   -- ---- the table of what is said before
   pub whole-at : WholeAt input f (s .at)
-  whole-at = record { few-places = k .few-places; few-states = k .few-states; inside = whole-record }
+  whole-at = record { head = k .head; inside = whole-record }
 
   module _ (said : List ℕ) (t : TableOf f earlier said) (key : ℕ) (its-key : key ≡ keyOf f new) where
     -- it has room for the record's key
     pub key-inside : key < 64 * length said
-    key-inside = omega (arith, its-key, key-below f (k .few-states) new fitting, t .room)
+    key-inside = omega (arith, its-key, key-below f (k .head .few-states) new fitting, t .room)
 
     -- which is looked up, and put in
     module _ (there : Bool) (said′ : List ℕ) (says : SaysKey said key there said′) where
       is-new : isNew (queryWith f earlier) new ≡ not there
       is-new =
-          new-key f (k .few-states) earlier new (t .fitting) fitting
+          new-key f (k .head .few-states) earlier new (t .fitting) fitting
           ∙ ap not (sym (says .told ∙ ap (hasKey said) its-key ∙ t .keys (keyOf f new)))
 
       -- 4: it is there

@@ -1,24 +1,23 @@
--- The keys of records that fit. First digits with any radix, then the numbers of a record that fits, then its key: what the record says
--- can be read from the key, so two have one key exactly if they say the same. Last the records before: which of them has the key.
-use mathlib.Core.Bool.{Bool, _&&_, _||_, and-true, cond, false, not, true, true≢false}
+-- The keys of records that fit. First digits with any radix, then the key of a record: what the record says can be read from it, so two
+-- have one key exactly if they say the same. Last the records before one: it is new exactly if none of them has its key.
+use mathlib.Core.Bool.{Bool, _||_, and-true, cond, false, not, true, true≢false}
 use mathlib.Core.List.{List, List·Memᴰ·tail, [], _∷_, map}
-use mathlib.Core.Logic.{⊎-elim}
 use mathlib.Core.Path.{_∙_, _≡_, ap, refl, sym}
-use Prim.Native.Nat.{_%_, _*_, _+_, _-_, _/_, _<_, _^_, _≤_, suc, ℕ}
+use Prim.Native.Nat.{_%_, _*_, _+_, _-_, _/_, _<_, _≤_, suc, ℕ}
 use native.Mathlib.Nat.{div-eq-of-lt, mod-eq-of-lt, mul-add-div-right, mul-add-mod-self-right, mul-le-mul-right}
 use native.Mathlib.Omega.{arith}
-use borrow.Author.Tests.{eq-eqb, eqb-false, eqb-true, le-ltb, leb-true, lt-ltb, ltb-true, ne-eqb}
-use lib.Dec.{eqb, leb, ltb}
-use lib.ListN.{drop, getD, length}
-use Rattle.paper.specs.Lists.{_∈_, allBelow, has, same}
+use borrow.Author.Tests.{eq-eqb, eqb-true, le-ltb, lt-ltb, ne-eqb}
+use lib.Dec.{eqb, ltb}
+use lib.ListN.{getD, length}
+use Rattle.paper.specs.Lists.{_∈_, has, same}
 use Rattle.paper.specs.Query.{Rule, acceptingOf, branchRule, isRuleKind, leafRule, ruleOf, rulesOf, side}
-use Rattle.paper.specs.Refusals.{hasSide, inRange, isNew}
-use Rattle.paper.specs.Stream.{StreamRecord, bodyLength, number, whole}
-use Rattle.laws.proofs.Lists.{both-true, here, iff-eq, not-then-false, same-refl, same-true, which}
-use Rattle.laws.proofs.StreamPlaces.{made-of}
+use Rattle.paper.specs.Refusals.{hasSide, isNew}
+use Rattle.paper.specs.Stream.{StreamRecord, number}
+use Rattle.laws.proofs.Lists.{here, iff-eq, not-then-false, same-refl, same-true}
 use Rattle.stream.specs.Keys.{endsOf, flagsOf, keyOf, keysOf, pairEnd, sideKey}
-use Rattle.stream.specs.OneRecord.{fits, queryWith, wholeInRange}
+use Rattle.stream.specs.OneRecord.{fits, queryWith}
 use Rattle.stream.specs.Reading.{QueryFacts}
+use Rattle.stream.proofs.Fitting.{by-kind, flag-low, label-low, left-low, right-low, state-low}
 
 -- ---- digits
 module _ (a n b : ℕ) (h : b < n) where
@@ -30,69 +29,6 @@ module _ (a n b : ℕ) (h : b < n) where
 
   radix-below : (m : ℕ) → a < m → a * n + b < m * n
   radix-below m g = omega (arith, mul-le-mul-right {m = suc a} {n = m} n g)
-
--- ---- the numbers of a record that fits
-module _ (f : QueryFacts) (r : StreamRecord) (fitting : fits f r ≡ true) where
-  parts : (leb 17 (r .kind) && leb (r .kind) 19 ≡ true) × (wholeInRange f r ≡ true)
-  parts = both-true (leb 17 (r .kind) && leb (r .kind) 19) (wholeInRange f r) fitting
-
-  in-range : (whole r ≡ true) × (inRange (queryWith f []) r ≡ true)
-  in-range = both-true (whole r) (inRange (queryWith f []) r) (parts .1)
-
-  -- it is a leaf rule, a branch rule or an accepting state
-  by-kind : {A : Type 0} → (r .kind ≡ 17 → A) → (r .kind ≡ 18 → A) → (r .kind ≡ 19 → A) → A
-  by-kind {A} leaf branch state =
-      ⊎-elim (λ e. leaf (eqb-true (r .kind) 17 e)) (λ e. later (eqb-false (r .kind) 17 e)) (which (eqb (r .kind) 17))
-    where
-      kinds : (leb 17 (r .kind) ≡ true) × (leb (r .kind) 19 ≡ true)
-      kinds = both-true (leb 17 (r .kind)) (leb (r .kind) 19) (parts .0)
-
-      last : (r .kind ≡ 17 → ⊥) → (r .kind ≡ 18 → ⊥) → r .kind ≡ 19
-      last m n = omega (arith, leb-true 17 (r .kind) (kinds .0), leb-true (r .kind) 19 (kinds .1))
-
-      later : (r .kind ≡ 17 → ⊥) → A
-      later n =
-          ⊎-elim (λ e. branch (eqb-true (r .kind) 18 e)) (λ e. state (last n (eqb-false (r .kind) 18 e))) (which (eqb (r .kind) 18))
-
-  -- a rule
-  module _ (rule : isRuleKind (r .kind) ≡ true) where
-    tests : leb (number r 0) 63 && (ltb (number r 1) (2 ^ f .arity) && allBelow (f .states) (drop 2 (r .body))) ≡ true
-    tests = rw rule at (in-range .1)
-
-    label-then : (leb (number r 0) 63 ≡ true) × (ltb (number r 1) (2 ^ f .arity) && allBelow (f .states) (drop 2 (r .body)) ≡ true)
-    label-then = both-true (leb (number r 0) 63) _ tests
-
-    flag-then : (ltb (number r 1) (2 ^ f .arity) ≡ true) × (allBelow (f .states) (drop 2 (r .body)) ≡ true)
-    flag-then = both-true (ltb (number r 1) (2 ^ f .arity)) _ (label-then .1)
-
-    label-low : number r 0 < 64
-    label-low = omega (arith, leb-true (number r 0) 63 (label-then .0))
-
-    flag-low : number r 1 < flagsOf f
-    flag-low = ltb-true (number r 1) (2 ^ f .arity) (flag-then .0)
-
-  -- the states on the left side of a branch rule
-  module _ (branch : r .kind ≡ 18) where
-    five : length (r .body) ≡ 5
-    five = eqb-true (length (r .body)) (bodyLength (r .kind)) (in-range .0) ∙ ap bodyLength branch
-
-    states-low : ltb (number r 2) (f .states) && (ltb (number r 3) (f .states) && (ltb (number r 4) (f .states) && true)) ≡ true
-    states-low = ap (λ body. allBelow (f .states) (drop 2 body)) (sym (made-of 5 (r .body) five)) ∙ flag-then (ap isRuleKind branch) .1
-
-    left-low : number r 2 < f .states
-    left-low = ltb-true (number r 2) (f .states) (both-true (ltb (number r 2) (f .states)) _ states-low .0)
-
-    right-low : number r 3 < f .states
-    right-low =
-        let q = both-true (ltb (number r 2) (f .states)) _ states-low .1 in
-        ltb-true (number r 3) (f .states) (both-true (ltb (number r 3) (f .states)) _ q .0)
-
-    end-low : pairEnd f (number r 2) (number r 3) < endsOf f
-    end-low = omega (arith, radix-below (number r 2) (f .states) (number r 3) right-low (f .states) left-low)
-
-  -- an accepting state
-  state-low : r .kind ≡ 19 → number r 0 < f .states
-  state-low state = ltb-true (number r 0) (f .states) (rw (ap isRuleKind state) at (in-range .1))
 
 -- ---- what a record says, and its key
 -- its kind, and its left side or its state
@@ -130,6 +66,11 @@ side-read f a b end hb he =
   where
     above : sideKey f a b end - 16 ≡ (a * flagsOf f + b) * endsOf f + end
     above = omega arith
+
+-- what stands behind the label and the flag of a branch rule
+end-low : (f : QueryFacts) (r : StreamRecord) → fits f r ≡ true → r .kind ≡ 18 → pairEnd f (number r 2) (number r 3) < endsOf f
+end-low f r fitting e =
+    omega (arith, radix-below (number r 2) (f .states) (number r 3) (right-low f r fitting e) (f .states) (left-low f r fitting e))
 
 module _ (f : QueryFacts) (few : f .states ≤ 16) (r : StreamRecord) (fitting : fits f r ≡ true) where
   -- a record's key is that of what it says

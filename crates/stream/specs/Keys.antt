@@ -8,7 +8,7 @@ use lib.Dec.{eqb}
 use lib.ListN.{getD, length}
 use Rattle.paper.specs.Lists.{_∈_, has}
 use Rattle.paper.specs.Stream.{StreamRecord, number}
-use Rattle.stream.specs.OneRecord.{QueryStep, fits}
+use Rattle.stream.specs.OneRecord.{HeadInRange, QueryStep, fits}
 use Rattle.stream.specs.Positions.{after, recordsBetween}
 use Rattle.stream.specs.Reading.{QueryFacts}
 use Rattle.stream.specs.declared.query.QueryStep.the-variants as QueryStepIs
@@ -64,6 +64,5 @@ TableAfter input f (QueryStepIs.Refused why) said = Unit {0}
 
 -- a whole record stands at the position, behind a head whose numbers are in range
 pub record WholeAt (input : List ℕ) (f : QueryFacts) (at : ℕ) : Type 0 where
-  pub few-places : f .arity ≤ 4
-  pub few-states : f .states ≤ 16
+  pub head : HeadInRange f
   pub inside : after input at ≤ length input

@@ -71,10 +71,14 @@ pub record AtKind (input : List ℕ) (f : QueryFacts) (at k : ℕ) : Type 0 wher
   pub here : at < length input
   pub kind : getD input at 0 ≡ k
 
--- the numbers of a head that was read are in range, and the records behind it begin in the input or at its end
-pub record BehindHead (input : List ℕ) (f : QueryFacts) : Type 0 where
+-- the numbers of a head that was read are in range
+pub record HeadInRange (f : QueryFacts) : Type 0 where
   pub few-places : f .arity ≤ 4
   pub few-states : f .states ≤ 16
+
+-- and the records behind it begin in the input, or at its end
+pub record BehindHead (input : List ℕ) (f : QueryFacts) : Type 0 where
+  pub head : HeadInRange f
   pub inside : f .rules ≤ length input
 
 -- the state after the records up to a position
@@ -83,8 +87,7 @@ queryUpTo input f to = record { at = to; rules = length (rulesOf (recordsBetween
 
 -- whole records behind the head up to another one, and the state that they make
 pub record AtLaterRecord (input : List ℕ) (f : QueryFacts) (s : QueryState) : Type 0 where
-  pub few-places : f .arity ≤ 4
-  pub few-states : f .states ≤ 16
+  pub head : HeadInRange f
   pub before : WholeBetween input (f .rules) (s .at)
   pub state : s ≡ queryUpTo input f (s .at)
   pub here : s .at < length input

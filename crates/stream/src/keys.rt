@@ -6,6 +6,7 @@ ghost use Prim.Native.Nat.{_*_, _≤_, _<_};
 ghost use lib.ListN.{length, getD};
 ghost use Rattle.paper.specs.Query.{isRuleKind};
 ghost use Rattle.stream.specs.Keys.{flagsOf, endsOf, keysOf, keyOf, WholeAt, SaysKey};
+ghost use Rattle.stream.specs.OneRecord.{HeadInRange};
 ghost use Rattle.stream.specs.Positions.{recordAt};
 use crate::head::QueryFacts;
 use paper::kinds::LEAF_RULE;
@@ -33,8 +34,7 @@ fn ends(facts: QueryFacts) -> usize
 
 // The keys of the query. Its own arity and states are the radices, so that a small query has few.
 pub(crate) fn number_of_keys(facts: QueryFacts) -> usize
-    requires { ⌜ facts .arity ≤ 4 ⌝ }
-    requires { ⌜ facts .states ≤ 16 ⌝ }
+    requires { ⌜ HeadInRange facts ⌝ }
     ensures { λ r. ⌜ (r ≡ keysOf facts) × (r ≤ 263184) ⌝ }
 {
     MOST_STATES + (HIGHEST_LABEL as usize + 1) * flags(facts) * ends(facts)

@@ -24,7 +24,7 @@ left-low : (c : tie.After-struct-known) → let a = c .before .before .before .b
 left-low c =
     let a = c .before .before .before .before .before .before .before .before .before in
     let p : c .before .number-at3 .result ≤ 255 = omega (arith, c .before .number-at3 .ensures .1) in
-    mul-le-mul p (a .pre .0 .few-states)
+    mul-le-mul p (a .pre .0 .head .few-states)
 
 -- ---- needs
 add-number-at : tie.Need-add-number-at
