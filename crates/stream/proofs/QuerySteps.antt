@@ -1,5 +1,5 @@
--- One record behind the head, after those before it. First the tests that a record fits, then the state after one that fits, then the
--- two tests that are left: that there are not too many rules, and that it is new, by the table of what is said before.
+-- One record behind the head, after those before it. First the tests that it fits, then the state after one that fits, then the two tests
+-- that are left: that it is not a rule too many, and that it is new, by the table of what is said before.
 use mathlib.Core.Bool.{Bool, _&&_, _||_, false, not, or-assoc, or-comm, or-false, true, true≢false}
 use mathlib.Core.List.{List, List·Memᴰ·append-cases, [], _++_, _∷_, map}
 use mathlib.Core.Logic.{⊎-elim}
@@ -15,8 +15,8 @@ use Rattle.paper.specs.Refusals.{Test, answer, inRange, isNew, refused, unless}
 use Rattle.paper.specs.Stream.{StreamRecord, whole}
 use Rattle.laws.proofs.Lists.{both-true, only, or-right}
 use Rattle.laws.proofs.ReadQuery.{rules-append}
-use Rattle.stream.specs.Keys.{SaysKey, TableOf, WholeAt, hasKey, keyOf}
-use Rattle.stream.specs.OneRecord.{AtLaterRecord, QueryState, fits, queryStep, queryUpTo, queryWith, wholeInRange}
+use Rattle.stream.specs.Keys.{AtFittingRecord, SaysKey, TableOf, WholeAt, hasKey, keyOf}
+use Rattle.stream.specs.OneRecord.{QueryState, fits, queryStep, queryUpTo, queryWith, wholeInRange}
 use Rattle.stream.specs.Positions.{after, recordAt, recordsBetween}
 use Rattle.stream.specs.Reading.{QueryFacts}
 use Rattle.stream.proofs.Positions.{between-more, whole-inside}
@@ -72,8 +72,15 @@ module _ (input : List ℕ) (f : QueryFacts) (at : ℕ) where
       → isNew (queryWith f before) r ≡ b → queryStep input f at ≡ unless ((3, a) ∷ (4, b) ∷ []) (queryUpTo input f (after input at))
   decided a b e room new = fit e ∙ λ i. unless ((3, room i) ∷ (4, new i) ∷ []) (queryUpTo input f (after input at))
 
--- ---- one record that fits, and the state after it
-module _ (input : List ℕ) (f : QueryFacts) (s : QueryState) (k : AtLaterRecord input f s) (fitting : fits f (recordAt input (s .at)) ≡ true) where
+-- ---- the record's key looked up in the table, and put in
+pub record Looked (input : List ℕ) (f : QueryFacts) (s : QueryState) (said : List ℕ) (there : Bool) (said′ : List ℕ) : Type 0 where
+  pub key : ℕ
+  pub its-key : key ≡ keyOf f (recordAt input (s .at))
+  pub says : SaysKey said key there said′
+  pub long : length said′ ≡ length said
+
+-- ---- one record that fits
+module _ (input : List ℕ) (f : QueryFacts) (s : QueryState) (said : List ℕ) (k : AtFittingRecord input f s said) where
   abbrev earlier : List StreamRecord
   earlier = recordsBetween input (f .rules) (s .at)
 
@@ -82,32 +89,36 @@ module _ (input : List ℕ) (f : QueryFacts) (s : QueryState) (k : AtLaterRecord
 
   pub whole-record : after input (s .at) ≤ length input
   whole-record =
-      let p = both-true (leb 17 (new .kind) && leb (new .kind) 19) (wholeInRange f new) fitting .1 in
-      whole-inside input (s .at) (k .here) (both-true (whole new) (inRange (queryWith f []) new) p .0)
+      let p = both-true (leb 17 (new .kind) && leb (new .kind) 19) (wholeInRange f new) (k .fitting) .1 in
+      whole-inside input (s .at) (k .later .here) (both-true (whole new) (inRange (queryWith f []) new) p .0)
+
+  pub whole-at : WholeAt input f (s .at)
+  whole-at = record { head = k .later .head; inside = whole-record }
 
   rules-so-far : s .rules ≡ length (rulesOf earlier)
-  rules-so-far = ap (λ (t : QueryState). t .rules) (k .state)
+  rules-so-far = ap (λ (t : QueryState). t .rules) (k .later .state)
+
+  -- those up to it, and then it
+  all : recordsBetween input (f .rules) (after input (s .at)) ≡ earlier ++ (new ∷ [])
+  all = between-more input (f .rules) (s .at) (k .later .before) whole-record
 
   -- the state after it
   next-state : (next n : ℕ) → next ≡ after input (s .at) → n ≡ s .rules + length (rulesOf (new ∷ []))
       → _≡_ {A = QueryState} (record { at = next; rules = n }) (queryUpTo input f (after input (s .at)))
   next-state next n a b = λ i. record { at = a i; rules = rules-next i }
     where
-      all : recordsBetween input (f .rules) (after input (s .at)) ≡ earlier ++ (new ∷ [])
-      all = between-more input (f .rules) (s .at) (k .before) whole-record
-
       rules-next : n ≡ length (rulesOf (recordsBetween input (f .rules) (after input (s .at))))
       rules-next = rw (all, rules-append earlier (new ∷ [])) (omega (arith, length-append (rulesOf earlier) (rulesOf (new ∷ [])), rules-so-far))
 
   -- ---- the number of rules
-  -- not a 1,025th rule
+  -- it is not a 1,025th rule
   abbrev room : Bool
   room = not (isRuleKind (new .kind)) || ltb (length (rulesOf earlier)) 1024
 
-  -- 3: one
+  -- 3: it is one
   pub many-rules : isRuleKind (getD input (s .at) 0) ≡ true → 1024 ≤ s .rules → refused 3 ≡ queryStep input f (s .at)
   many-rules rule h =
-      sym (decided input f (s .at) false _ fitting (rw (rule, le-ltb (length (rulesOf earlier)) 1024 (omega (arith, rules-so-far))) refl) refl)
+      sym (decided input f (s .at) false _ (k .fitting) (rw (rule, le-ltb (length (rulesOf earlier)) 1024 (omega (arith, rules-so-far))) refl) refl)
 
   pub few-rules : s .rules < 1024 → room ≡ true
   few-rules h =
@@ -117,40 +128,33 @@ module _ (input : List ℕ) (f : QueryFacts) (s : QueryState) (k : AtLaterRecord
   pub no-rule : getD input (s .at) 0 ≡ 19 → room ≡ true
   no-rule e = rw (ap isRuleKind e) refl
 
-  -- ---- the table of what is said before
-  pub whole-at : WholeAt input f (s .at)
-  whole-at = record { head = k .head; inside = whole-record }
+  -- ---- the table
+  -- it has room for the record's key
+  pub key-inside : (key : ℕ) → key ≡ keyOf f new → key < 64 * length said
+  key-inside key e = omega (arith, key-below f (k .later .head .few-states) new (k .fitting), k .table .room)
 
-  module _ (said : List ℕ) (t : TableOf f earlier said) (key : ℕ) (its-key : key ≡ keyOf f new) where
-    -- it has room for the record's key
-    pub key-inside : key < 64 * length said
-    key-inside = omega (arith, its-key, key-below f (k .head .few-states) new fitting, t .room)
+  module _ (there : Bool) (said′ : List ℕ) (l : Looked input f s said there said′) where
+    is-new : isNew (queryWith f earlier) new ≡ not there
+    is-new =
+        new-key f (k .later .head .few-states) earlier new (k .table .fitting) (k .fitting)
+        ∙ ap not (sym (l .says .told ∙ ap (hasKey said) (l .its-key) ∙ k .table .keys (keyOf f new)))
 
-    -- which is looked up, and put in
-    module _ (there : Bool) (said′ : List ℕ) (says : SaysKey said key there said′) where
-      is-new : isNew (queryWith f earlier) new ≡ not there
-      is-new =
-          new-key f (k .head .few-states) earlier new (t .fitting) fitting
-          ∙ ap not (sym (says .told ∙ ap (hasKey said) its-key ∙ t .keys (keyOf f new)))
+    -- 4: its key was there
+    pub said-twice : room ≡ true → there ≡ true → refused 4 ≡ queryStep input f (s .at)
+    said-twice free e = sym (decided input f (s .at) true false (k .fitting) free (is-new ∙ ap not e))
 
-      -- 4: it is there
-      pub said-twice : room ≡ true → there ≡ true → refused 4 ≡ queryStep input f (s .at)
-      said-twice free e = sym (decided input f (s .at) true false fitting free (is-new ∙ ap not e))
+    -- it is new
+    pub said-first : (next n : ℕ) → next ≡ after input (s .at) → n ≡ s .rules + length (rulesOf (new ∷ [])) → room ≡ true → there ≡ false
+        → answer (record { at = next; rules = n }) ≡ queryStep input f (s .at)
+    said-first next n a b free e =
+        ap answer (next-state next n a b) ∙ sym (decided input f (s .at) true true (k .fitting) free (is-new ∙ ap not e))
 
-      -- it is new
-      pub said-first : (next n : ℕ) → next ≡ after input (s .at) → n ≡ s .rules + length (rulesOf (new ∷ [])) → room ≡ true → there ≡ false
-          → answer (record { at = next; rules = n }) ≡ queryStep input f (s .at)
-      said-first next n a b free e =
-          ap answer (next-state next n a b) ∙ sym (decided input f (s .at) true true fitting free (is-new ∙ ap not e))
-
-      -- and the table has it
-      pub table-next : length said′ ≡ length said → (next : ℕ) → next ≡ after input (s .at) → TableOf f (recordsBetween input (f .rules) next) said′
-      table-next long next a =
-          subst (λ records. TableOf f records said′)
-          (sym (ap (recordsBetween input (f .rules)) a ∙ between-more input (f .rules) (s .at) (k .before) whole-record)) (record {
-            room = omega (arith, t .room, long);
-            fitting = λ x m. ⊎-elim (t .fitting x) (λ n. ap (fits f) (only n) ∙ fitting) (List·Memᴰ·append-cases earlier m);
-            keys = λ j.
-                says .adds j ∙ (λ i. eqb (its-key i) j || t .keys j i) ∙ or-comm (eqb (keyOf f new) j) (has (map (keyOf f) earlier) j)
-                ∙ sym (has-more f earlier new j);
-          })
+    -- and its key is there for those behind it
+    pub table-next : (next : ℕ) → next ≡ after input (s .at) → TableOf f (recordsBetween input (f .rules) next) said′
+    table-next next a = subst (λ records. TableOf f records said′) (sym (ap (recordsBetween input (f .rules)) a ∙ all)) (record {
+      room = omega (arith, k .table .room, l .long);
+      fitting = λ x m. ⊎-elim (k .table .fitting x) (λ n. ap (fits f) (only n) ∙ k .fitting) (List·Memᴰ·append-cases earlier m);
+      keys = λ j.
+          l .says .adds j ∙ (λ i. eqb (l .its-key i) j || k .table .keys j i)
+          ∙ or-comm (eqb (keyOf f new) j) (has (map (keyOf f) earlier) j) ∙ sym (has-more f earlier new j);
+    })

@@ -8,8 +8,8 @@ use lib.Dec.{eqb}
 use lib.ListN.{getD, length}
 use Rattle.paper.specs.Lists.{_∈_, has}
 use Rattle.paper.specs.Stream.{StreamRecord, number}
-use Rattle.stream.specs.OneRecord.{HeadInRange, QueryStep, fits}
-use Rattle.stream.specs.Positions.{after, recordsBetween}
+use Rattle.stream.specs.OneRecord.{AtLaterRecord, HeadInRange, QueryState, QueryStep, fits}
+use Rattle.stream.specs.Positions.{after, recordAt, recordsBetween}
 use Rattle.stream.specs.Reading.{QueryFacts}
 use Rattle.stream.specs.declared.query.QueryStep.the-variants as QueryStepIs
 
@@ -56,6 +56,12 @@ pub record TableOf (f : QueryFacts) (records : List StreamRecord) (said : List �
   pub room : keysOf f ≤ 64 * length said
   pub fitting : (r : StreamRecord) → r ∈ records → fits f r ≡ true
   pub keys : (k : ℕ) → hasKey said k ≡ has (map (keyOf f) records) k
+
+-- a record that fits stands behind the head, and the table has the keys of those before it
+pub record AtFittingRecord (input : List ℕ) (f : QueryFacts) (s : QueryState) (said : List ℕ) : Type 0 where
+  pub later : AtLaterRecord input f s
+  pub fitting : fits f (recordAt input (s .at)) ≡ true
+  pub table : TableOf f (recordsBetween input (f .rules) (s .at)) said
 
 -- where the reading goes on, the table has the keys of the records up to there
 abbrev pub TableAfter : List ℕ → QueryFacts → QueryStep → List ℕ → Type 0

@@ -7,9 +7,9 @@ ghost use mathlib.Core.Path.{_≡_};
 ghost use Prim.Native.Nat.{_*_, _≤_};
 ghost use lib.ListN.{getD};
 ghost use Rattle.paper.specs.Query.{isRuleKind};
-ghost use Rattle.stream.specs.OneRecord.{BehindHead, fits, AtLaterRecord, queryStep, saysQueryStep, laterReply};
-ghost use Rattle.stream.specs.Keys.{TableOf, TableAfter, keysOf};
-ghost use Rattle.stream.specs.Positions.{recordAt, recordsBetween};
+ghost use Rattle.stream.specs.OneRecord.{BehindHead, AtLaterRecord, queryStep, saysQueryStep, laterReply};
+ghost use Rattle.stream.specs.Keys.{AtFittingRecord, TableOf, TableAfter, keysOf};
+ghost use Rattle.stream.specs.Positions.{recordsBetween};
 ghost use Rattle.stream.specs.Reading.{saysQuery, queryReply};
 use crate::fits::record_fits;
 use crate::head::QueryFacts;
@@ -40,10 +40,8 @@ enum QueryStep {
 // A rule that fits: one too many is refused 3, one whose kind and left side an earlier one has is
 // refused 4.
 fn rule_record(input: &[u8], facts: QueryFacts, state: QueryState, said: &mut [u64]) -> QueryStep
-    requires { ⌜ AtLaterRecord (now input) facts state ⌝ }
-    requires { ⌜ fits facts (recordAt (now input) (state .at)) ≡ true ⌝ }
+    requires { ⌜ AtFittingRecord (now input) facts state (now said) ⌝ }
     requires { ⌜ isRuleKind (getD (now input) (state .at) 0) ≡ true ⌝ }
-    requires { ⌜ TableOf facts (recordsBetween (now input) (facts .rules) (state .at)) (now said) ⌝ }
     ensures { λ r. ⌜ saysQueryStep r ≡ queryStep (now (input .entry)) facts (state .at) ⌝ }
     ensures { λ r. ⌜ TableAfter (now (input .entry)) facts r (now (said .exit)) ⌝ }
 {
@@ -63,10 +61,8 @@ fn rule_record(input: &[u8], facts: QueryFacts, state: QueryState, said: &mut [u
 
 // An accepting state that fits: one that is accepted already is refused 4.
 fn state_record(input: &[u8], facts: QueryFacts, state: QueryState, said: &mut [u64]) -> QueryStep
-    requires { ⌜ AtLaterRecord (now input) facts state ⌝ }
-    requires { ⌜ fits facts (recordAt (now input) (state .at)) ≡ true ⌝ }
+    requires { ⌜ AtFittingRecord (now input) facts state (now said) ⌝ }
     requires { ⌜ getD (now input) (state .at) 0 ≡ 19 ⌝ }
-    requires { ⌜ TableOf facts (recordsBetween (now input) (facts .rules) (state .at)) (now said) ⌝ }
     ensures { λ r. ⌜ saysQueryStep r ≡ queryStep (now (input .entry)) facts (state .at) ⌝ }
     ensures { λ r. ⌜ TableAfter (now (input .entry)) facts r (now (said .exit)) ⌝ }
 {

@@ -25,7 +25,7 @@ state-record-requires : tie.Need-state-record-requires
 state-record-requires c κs =
     let k = c .before .before .before in
     let a = k .before .before .before .before in
-    (a .pre .0, (sym (k .before .record-fits .ensures) ∙ not-false _ (k .if1 .left), (c .before .if2 .taken, a .pre .1)))
+    (record { later = a .pre .0; fitting = sym (k .before .record-fits .ensures) ∙ not-false _ (k .if1 .left); table = a .pre .1 }, c .before .if2 .taken)
 
 same-length : tie.Need-same-length
 same-length c = search needs
@@ -38,8 +38,10 @@ rule-record-requires c κs =
     let k = c .before .before .before in
     let a = k .before .before .before .before in
     let fitting : fits (a .args .facts) (recordAt (a .args .input .now) (a .args .state .at)) ≡ true =
-    sym (k .before .record-fits .ensures) ∙ not-false _ (k .if1 .left) in
-    (a .pre .0, (fitting, (rule-kind (a .args .input .now) (a .args .facts) (a .args .state .at) fitting (c .before .if2 .left), a .pre .1)))
+    sym (k .before .record-fits .ensures) ∙ not-false _ (k .if1 .left) in (
+      record { later = a .pre .0; fitting = fitting; table = a .pre .1 },
+      rule-kind (a .args .input .now) (a .args .facts) (a .args .state .at) fitting (c .before .if2 .left),
+    )
 
 same-length-2 : tie.Need-same-length-2
 same-length-2 c = search needs

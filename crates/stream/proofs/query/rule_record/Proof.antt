@@ -1,64 +1,29 @@
 -- `query::rule_record` meets its contract: a rule whose key the table has is said before, and a new one is put in.
-use mathlib.Core.Bool.{true}
-use mathlib.Core.List.{List}
 use mathlib.Core.Path.{_≡_, refl}
-use Prim.Native.Nat.{_+_, _<_, _≤_, ℕ}
+use Prim.Native.Nat.{_+_}
 use native.Mathlib.Omega.{arith}
 use borrow.Author.Needs.{needs}
-use lib.ListN.{getD, length}
-use Rattle.paper.specs.Query.{isRuleKind}
-use Rattle.stream.specs.Keys.{TableOf}
-use Rattle.stream.specs.OneRecord.{AtLaterRecord, QueryState, fits}
-use Rattle.stream.specs.Positions.{after, recordAt, recordsBetween}
-use Rattle.stream.specs.Reading.{QueryFacts}
-use Rattle.stream.proofs.QuerySteps.{few-rules, key-inside, many-rules, said-first, said-twice, table-next, whole-at, whole-record}
+use Rattle.stream.specs.Positions.{after}
+use Rattle.stream.proofs.QuerySteps.{Looked, few-rules, key-inside, many-rules, said-first, said-twice, table-next, whole-at, whole-record}
 use Rattle.stream.proofs.query.rule_record.Statement.{statement}
 use Rattle.stream.proofs.query.rule_record.Tie as tie
 
--- what is known where the rule's key has been made
-module _ (c : tie.After-rule-key) where
-  abbrev start : tie.Start
-  start = c .before .before .before .before .before
+-- the rule's key looked up, and put in
+abbrev start : tie.After-say → tie.Start
+start c = c .before .before .before .before .before .before .before
 
-  abbrev input : List ℕ
-  input = start .args .input .now
-
-  abbrev f : QueryFacts
-  f = start .args .facts
-
-  abbrev s : QueryState
-  s = start .args .state
-
-  here : AtLaterRecord input f s
-  here = start .pre .0
-
-  fitting : fits f (recordAt input (s .at)) ≡ true
-  fitting = start .pre .1 .0
-
-  rule : isRuleKind (getD input (s .at) 0) ≡ true
-  rule = start .pre .1 .1 .0
-
-  table : TableOf f (recordsBetween input (f .rules) (s .at)) (start .args .said .now)
-  table = start .pre .1 .1 .1
-
-  few : s .rules < 1024
-  few = c .before .if1 .left
-
-  inside : after input (s .at) ≤ length input
-  inside = whole-record input f s here fitting
+looked : (c : tie.After-say) → let a = start c .args in
+    Looked (a .input .now) (a .facts) (a .state) (a .said .now) (c .say .result) (c .say .last .0)
+looked c = record { key = _; its-key = c .before .before .rule-key .ensures; says = c .say .ensures; long = c .say .kept .0 }
 
 returns : tie.Need-returns
-returns c =
-    let a = c .before .before .before .before in
-    (many-rules _ _ _ (a .pre .0) (a .pre .1 .0) (a .pre .1 .1 .0) (c .if1 .taken), tt)
+returns c = let a = c .before .before .before .before in (many-rules _ _ _ _ (a .pre .0) (a .pre .1) (c .if1 .taken), tt)
 
 rule-key-requires : tie.Need-rule-key-requires
-rule-key-requires c κs =
-    let a = c .before .before .before .before in
-    (whole-at _ _ _ (a .pre .0) (a .pre .1 .0), a .pre .1 .1 .0)
+rule-key-requires c κs = let a = c .before .before .before .before in (whole-at _ _ _ _ (a .pre .0), a .pre .1)
 
 say-requires : tie.Need-say-requires
-say-requires c κs = let k = c .before in key-inside _ _ _ (here k) (fitting k) _ (table k) _ (k .rule-key .ensures)
+say-requires c κs = let k = c .before in key-inside _ _ _ _ (k .before .before .before .before .before .pre .0) _ (k .rule-key .ensures)
 
 same-length : tie.Need-same-length
 same-length c = search needs
@@ -66,11 +31,8 @@ same-length c = search needs
 returns-2 : tie.Need-returns-2
 returns-2 c =
     let say = c .before .before .before in
-    let k = say .before .before in (
-      said-twice _ _ _ (here k) (fitting k) _ (table k) _ (k .rule-key .ensures) _ _ (say .say .ensures)
-          (few-rules _ _ _ (here k) (fitting k) (few k)) (c .if2 .taken),
-      tt,
-    )
+    let a = start say in
+    (said-twice _ _ _ _ (a .pre .0) _ _ (looked say) (few-rules _ _ _ _ (a .pre .0) (say .before .before .before .if1 .left)) (c .if2 .taken), tt)
 
 add-t13 : tie.Need-add-t13
 add-t13 c = search needs
@@ -83,8 +45,8 @@ body-length-requires c κs = search needs
 
 add-t17 : tie.Need-add-t17
 add-t17 c =
-    let k = c .before .before .before .before .before .before .before in
-    omega (arith, inside k, c .body-length .ensures)
+    let a = start (c .before .before .before .before .before) in
+    omega (arith, whole-record _ _ _ _ (a .pre .0), c .body-length .ensures)
 
 add-t18 : tie.Need-add-t18
 add-t18 c = search needs
@@ -94,13 +56,14 @@ same-length-2 c = search needs
 
 returns-3 : tie.Need-returns-3
 returns-3 c =
-    let else = c .before .before .before in
-    let say = else .before .before .before in
-    let k = say .before .before in
-    let next : s k .at + 1 + c .before .body-length .result ≡ after (input k) (s k .at) = omega (arith, c .before .body-length .ensures) in (
-      said-first _ _ _ (here k) (fitting k) _ (table k) _ (k .rule-key .ensures) _ _ (say .say .ensures) _ (s k .rules + 1) next (rw (rule k) refl)
-          (few-rules _ _ _ (here k) (fitting k) (few k)) (else .if2 .left),
-      table-next _ _ _ (here k) (fitting k) _ (table k) _ (k .rule-key .ensures) _ _ (say .say .ensures) (say .say .kept .0) _ next,
+    let new = c .before .before .before in
+    let say = new .before .before .before in
+    let a = start say in
+    let s = a .args .state in
+    let next : s .at + 1 + c .before .body-length .result ≡ after (a .args .input .now) (s .at) = omega (arith, c .before .body-length .ensures) in (
+      said-first _ _ _ _ (a .pre .0) _ _ (looked say) _ (s .rules + 1) next (rw (a .pre .1) refl)
+          (few-rules _ _ _ _ (a .pre .0) (say .before .before .before .if1 .left)) (new .if2 .left),
+      table-next _ _ _ _ (a .pre .0) _ _ (looked say) _ next,
     )
 
 pub rule-record-spec : {M : Type 1} → statement M
