@@ -4,7 +4,7 @@ use mathlib.Core.Bool.{_&&_, true}
 use mathlib.Core.List.{[]}
 use mathlib.Core.Logic.{⊎-elim}
 use mathlib.Core.Path.{_∙_, _≡_, ap, sym}
-use Prim.Native.Nat.{_<_, _^_, ℕ}
+use Prim.Native.Nat.{_<_, _^_}
 use native.Mathlib.Omega.{arith}
 use borrow.Author.Tests.{eqb-false, eqb-true, leb-true, ltb-true}
 use lib.Dec.{eqb, leb, ltb}

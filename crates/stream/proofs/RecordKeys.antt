@@ -8,13 +8,13 @@ use native.Mathlib.Nat.{div-eq-of-lt, mod-eq-of-lt, mul-add-div-right, mul-add-m
 use native.Mathlib.Omega.{arith}
 use borrow.Author.Tests.{eq-eqb, eqb-true, le-ltb, lt-ltb, ne-eqb}
 use lib.Dec.{eqb, ltb}
-use lib.ListN.{getD, length}
+use lib.ListN.{length}
 use Rattle.paper.specs.Lists.{_∈_, has, same}
 use Rattle.paper.specs.Query.{Rule, acceptingOf, branchRule, isRuleKind, leafRule, ruleOf, rulesOf, side}
 use Rattle.paper.specs.Refusals.{hasSide, isNew}
 use Rattle.paper.specs.Stream.{StreamRecord, number}
 use Rattle.laws.proofs.Lists.{here, iff-eq, not-then-false, same-refl, same-true}
-use Rattle.stream.specs.Keys.{endsOf, flagsOf, keyOf, keysOf, pairEnd, sideKey}
+use Rattle.stream.specs.Keys.{endsOf, flagsOf, keyFrom, keyOf, keysOf, pairEnd, sideKey}
 use Rattle.stream.specs.OneRecord.{fits, queryWith}
 use Rattle.stream.specs.Reading.{QueryFacts}
 use Rattle.stream.proofs.Fitting.{by-kind, flag-low, label-low, left-low, right-low, state-low}
@@ -34,12 +34,6 @@ module _ (a n b : ℕ) (h : b < n) where
 -- its kind, and its left side or its state
 abbrev words : StreamRecord → List ℕ
 words r = cond (isRuleKind (r .kind)) (side (ruleOf r)) (r .kind ∷ number r 0 ∷ [])
-
--- the key of what is said
-abbrev keyFrom : QueryFacts → List ℕ → ℕ
-keyFrom f ws =
-    cond (eqb (getD ws 0 0) 19) (getD ws 1 0)
-    (sideKey f (getD ws 1 0) (getD ws 2 0) (cond (eqb (getD ws 0 0) 17) 0 (pairEnd f (getD ws 3 0) (getD ws 4 0))))
 
 -- what is said by a key
 abbrev sideFrom : QueryFacts → ℕ → ℕ → List ℕ

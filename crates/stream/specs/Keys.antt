@@ -1,13 +1,13 @@
 -- What the records behind the head say once, as a table of bits. First a key for each accepting state and for each kind and left side of a
 -- rule, with the query's own arity and states as radices, then the bits, then what the reading of the records keeps up.
 use mathlib.Core.Bool.{Bool, _||_, cond, true}
-use mathlib.Core.List.{List, map}
+use mathlib.Core.List.{List, _∷_, map}
 use mathlib.Core.Path.{_≡_}
 use Prim.Native.Nat.{ℕ, _+_, _*_, _/_, _%_, _^_, _≤_}
 use lib.Dec.{eqb}
 use lib.ListN.{getD, length}
 use Rattle.paper.specs.Lists.{_∈_, has}
-use Rattle.paper.specs.Stream.{StreamRecord, number}
+use Rattle.paper.specs.Stream.{StreamRecord}
 use Rattle.stream.specs.OneRecord.{AtLaterRecord, HeadInRange, QueryState, QueryStep, fits}
 use Rattle.stream.specs.Positions.{after, recordAt, recordsBetween}
 use Rattle.stream.specs.Reading.{QueryFacts}
@@ -34,11 +34,15 @@ sideKey f label flag end = 16 + ((label * flagsOf f + flag) * endsOf f + end)
 abbrev pub pairEnd : QueryFacts → ℕ → ℕ → ℕ
 pairEnd f left right = 1 + (left * f .states + right)
 
--- the key of a record: an accepting state, a leaf rule or a branch rule
+-- the key of a kind and numbers: an accepting state, a leaf rule or a branch rule
+abbrev pub keyFrom : QueryFacts → List ℕ → ℕ
+keyFrom f words =
+    cond (eqb (getD words 0 0) 19) (getD words 1 0)
+    (sideKey f (getD words 1 0) (getD words 2 0) (cond (eqb (getD words 0 0) 17) 0 (pairEnd f (getD words 3 0) (getD words 4 0))))
+
+-- of a record
 abbrev pub keyOf : QueryFacts → StreamRecord → ℕ
-keyOf f r =
-    cond (eqb (r .kind) 19) (number r 0)
-    (sideKey f (number r 0) (number r 1) (cond (eqb (r .kind) 17) 0 (pairEnd f (number r 2) (number r 3))))
+keyOf f r = keyFrom f (r .kind ∷ r .body)
 
 -- ---- bits
 -- the table has the key: 64 keys to a word, the lowest bit first
