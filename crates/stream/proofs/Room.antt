@@ -4,7 +4,7 @@ use mathlib.Core.Bool.{true}
 use mathlib.Core.List.{List, List·Memᴰ·tail, [], _∷_}
 use mathlib.Core.Logic.{⊎-elim}
 use mathlib.Core.Path.{_∙_, _≡_, ap, subst, sym}
-use Prim.Native.Nat.{_*_, _+_, _≤_, ℕ}
+use Prim.Native.Nat.{_*_, _+_, _<_, _≤_, ℕ}
 use native.Mathlib.Omega.{arith}
 use borrow.Author.Tests.{eqb-false, eqb-true}
 use lib.Dec.{eqb}
@@ -71,3 +71,9 @@ module _ (input : List ℕ) (at : ℕ) (f : QueryFacts) (e : answer f ≡ queryR
   -- so lists that are long enough have room for its rules
   pub query-room : (size : ℕ) → listNumbers ≤ size → Room input (f .rules) size
   query-room size h = (omega arith, omega (arith, query-short))
+
+  -- and behind a tree that is read it stands so early that its positions, and the end of the input, fit 16 bits
+  pub positions-fit : at ≤ 2 * 4095 → length input < 65536
+  positions-fit h =
+      let behind : at + 3 ≡ f .rules = ap (λ (g : QueryFacts). g .rules) (answered (queryPart (recordsOf (drop at input))) (sym e) .1) in
+      omega (arith, query-short)

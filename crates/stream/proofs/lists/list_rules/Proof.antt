@@ -2,7 +2,7 @@
 use mathlib.Core.List.{List}
 use mathlib.Core.Logic.{⊎-elim}
 use mathlib.Core.Path.{_∙_, ap}
-use Prim.Native.Nat.{_+_, _-_, _<_, ℕ}
+use Prim.Native.Nat.{_+_, _-_, _<_, _≤_, ℕ}
 use native.Mathlib.Omega.{arith}
 use borrow.Author.Needs.{needs}
 use lib.ListN.{getD, length, length-set}
@@ -36,6 +36,10 @@ module _ (l : tie.At-loop Inv-loop μ-loop) where
       let same = l .before .before .before .before .start-lists .kept .0 in
       (omega (arith, same, start .pre .1), omega (arith, same, start .pre .1))
 
+-- in a turn the position is inside
+inside : (k : tie.In-loop Inv-loop μ-loop) → k .before .loop .at < length (input (k .before))
+inside k = omega (arith, k .loop-test .taken)
+
 cast-end : tie.Need-cast-end Inv-loop μ-loop
 cast-end c = search needs
 
@@ -66,16 +70,16 @@ add-rule-requires c κs =
     let cell = c .before .before .cell-of .ensures in
     let p = c .before .before .before in
     let l = p .before .before .before in
-    let fits = cell-room _ _ _ _ _ _ (l .loop .inv .0) (p .before .before .loop-test .taken) (room l) in (
+    let fits = cell-room _ _ _ _ _ _ (l .loop .inv .0) (inside (p .before .before)) (room l) in (
       (
         omega (arith, p .if1 .taken, l .loop .inv .0 .long),
         omega (
           arith,
-          last-before _ _ _ _ _ _ (l .loop .inv .0) (p .before .before .loop-test .taken) (p .before .symbol-at .result) (p .if1 .taken),
+          last-before _ _ _ _ _ _ (l .loop .inv .0) (inside (p .before .before)) (p .before .symbol-at .result) (p .if1 .taken),
           fits,
         ),
       ),
-      (omega (arith, cell, fits), omega (arith, cell, p .before .before .loop-test .taken, pre l)),
+      (omega (arith, cell, fits), omega (arith, cell, inside (p .before .before), pre l)),
     )
 
 with-state-requires : tie.Need-with-state-requires Inv-loop μ-loop
@@ -93,7 +97,7 @@ body-length-requires c κs = search needs
 add-at-2 : tie.Need-add-at-2 Inv-loop μ-loop
 add-at-2 c =
     let k = c .before .before .before .before .before in
-    omega (arith, k .loop-test .taken, c .body-length .ensures, short (getD (input (k .before)) (k .before .loop .at) 0))
+    omega (arith, inside k, c .body-length .ensures, short (getD (input (k .before)) (k .before .loop .at) 0))
 
 loop-less : tie.Need-loop-less Inv-loop μ-loop
 loop-less c = search needs
@@ -107,12 +111,12 @@ loop-again c =
     let past = ap (λ n. l .loop .at + 1 + n) (c .body-length .ensures) in (
       ⊎-elim
           (λ w.
-          goes-on _ _ _ _ _ _ (l .loop .inv .0) (k .loop-test .taken) _ _ (j .before .symbol-at .ensures) past (room l) (w .0 .taken) _ _ _ (w .1 .ensures)
+          goes-on _ _ _ _ _ _ (l .loop .inv .0) (inside k) _ _ (j .before .symbol-at .ensures) past (room l) (w .0 .taken) _ _ _ (w .1 .ensures)
           (w .8 ∙ w .4 .ensures .0) (w .9 ∙ w .4 .ensures .1))
           (λ w.
-          rw (w .1, w .2) (goes-past _ _ _ _ _ _ (l .loop .inv .0) (k .loop-test .taken) _ _ (j .before .symbol-at .ensures) past (w .0 .left)))
+          rw (w .1, w .2) (goes-past _ _ _ _ _ _ (l .loop .inv .0) (inside k) _ _ (j .before .symbol-at .ensures) past (w .0 .left)))
           (j .if1 .came),
-      accepted-more _ _ _ _ (l .loop .inv .1) _ _ (k .loop-test .taken) past (state .ensures),
+      accepted-more _ _ _ _ (l .loop .inv .1) _ _ (inside k) past (state .ensures),
     )
 
 slice-write-lists : tie.Need-slice-write-lists Inv-loop μ-loop
@@ -126,8 +130,9 @@ same-length c =
 returns : tie.Need-returns Inv-loop μ-loop
 returns c =
     let l = c .before in
-    going-ends _ _ _ _ _ _ (l .loop .inv .0) (c .loop-test .left) (room l) _
-    (accepted-all _ _ _ _ (l .loop .inv .1) (c .loop-test .left))
+    let ended : length (input l) ≤ l .loop .at = omega (arith, c .loop-test .left) in
+    going-ends _ _ _ _ _ _ (l .loop .inv .0) ended (room l) _
+    (accepted-all _ _ _ _ (l .loop .inv .1) ended)
 
 pub list-rules-spec : {M : Type 1} → statement M
 list-rules-spec =
