@@ -35,24 +35,16 @@ module _ (n flag mark : ℕ) (e : mark ≡ 2 ^ flag * 2 ^ 16) where
 pub slot-fits : (x new : ℕ) → x < 2 ^ 64 → new < slotSets → x / slotSets * slotSets + new < 2 ^ 64
 slot-fits x new h small = omega (arith, div-add-mod' x slotSets)
 
-module _ (work : List ℕ) (shelf flag mark new : ℕ) (e : mark ≡ 2 ^ flag * 2 ^ 16) (inside : shelf + flag < length work) (small : new < slotSets) where
+-- the flag is marked, and then a number is written to its slot: the set, and above it the marks if it is the shelf's first number
+module _ (work : List ℕ) (shelf flag mark : ℕ) (e : mark ≡ 2 ^ flag * 2 ^ 16) (inside : shelf + flag < length work) where
   abbrev first : List ℕ
   first = set work shelf (bitOr (getD work shelf 0) mark)
-
-  abbrev last : List ℕ
-  last = set first (shelf + flag) (getD first (shelf + flag) 0 / slotSets * slotSets + new)
 
   first-length : length first ≡ length work
   first-length = length-set work shelf (bitOr (getD work shelf 0) mark)
 
   at-shelf : getD first shelf 0 ≡ bitOr (getD work shelf 0) mark
   at-shelf = getD-set-same work shelf (bitOr (getD work shelf 0) mark) 0 (omega arith)
-
-  at-slot : getD last (shelf + flag) 0 ≡ getD first (shelf + flag) 0 / slotSets * slotSets + new
-  at-slot = getD-set-same first (shelf + flag) (getD first (shelf + flag) 0 / slotSets * slotSets + new) 0 (omega (arith, first-length))
-
-  other-slot : (i : ℕ) → (i ≡ shelf + flag → ⊥) → getD last i 0 ≡ getD first i 0
-  other-slot i h = getD-set-other first (shelf + flag) i (getD first (shelf + flag) 0 / slotSets * slotSets + new) 0 h
 
   other-shelf : (i : ℕ) → (i ≡ shelf → ⊥) → getD first i 0 ≡ getD work i 0
   other-shelf i h = getD-set-other work shelf i (bitOr (getD work shelf 0) mark) 0 h
@@ -67,23 +59,44 @@ module _ (work : List ℕ) (shelf flag mark new : ℕ) (e : mark ≡ 2 ^ flag * 
           ∙ ap (slotAt work) (sym (eqb-true i shelf w))
       go false w = ap (λ x. x % slotSets) (other-shelf i (eqb-false i shelf w))
 
-  -- the second changes no mark
-  same-marks : marksAt last shelf ≡ marksAt first shelf
-  same-marks = go (eqb shelf (shelf + flag)) refl
-    where
-      go : (c : Bool) → eqb shelf (shelf + flag) ≡ c → marksAt last shelf ≡ marksAt first shelf
-      go true w =
-          let there : shelf ≡ shelf + flag = eqb-true shelf (shelf + flag) w in
-          ap (marksAt last) there ∙ ap (λ x. x / slotSets) at-slot ∙ digits-div (getD first (shelf + flag) 0 / slotSets) small ∙ ap (marksAt first) (sym there)
-      go false w = ap (λ x. x / slotSets) (other-slot shelf (eqb-false shelf (shelf + flag) w))
+  module _ (at n new : ℕ) (here : at ≡ shelf + flag) (low : n % slotSets ≡ new) (high : at ≡ shelf → n / slotSets ≡ marksAt first shelf) where
+    abbrev last : List ℕ
+    last = set first at n
 
-  pub set-put : Puts shelf flag new work last
-  set-put = record {
-    there = ap (λ x. x % slotSets) at-slot ∙ digits-mod (getD first (shelf + flag) 0 / slotSets) small;
-    others = λ i h. ap (λ x. x % slotSets) (other-slot i h) ∙ same-set i;
-    apart = λ i h h′. other-slot i h′ ∙ other-shelf i h;
-    marks = same-marks ∙ ap (λ x. x / slotSets) at-shelf ∙ marked-marks (getD work shelf 0) flag mark e;
-  }
+    at-slot : getD last at 0 ≡ n
+    at-slot = getD-set-same first at n 0 (omega (arith, first-length))
+
+    other-slot : (i : ℕ) → (i ≡ at → ⊥) → getD last i 0 ≡ getD first i 0
+    other-slot i h = getD-set-other first at i n 0 h
+
+    -- the second changes no mark
+    same-marks : marksAt last shelf ≡ marksAt first shelf
+    same-marks = go (eqb at shelf) refl
+      where
+        go : (c : Bool) → eqb at shelf ≡ c → marksAt last shelf ≡ marksAt first shelf
+        go true w =
+            let there = eqb-true at shelf w in
+            ap (marksAt last) (sym there) ∙ ap (λ x. x / slotSets) at-slot ∙ high there
+        go false w = ap (λ x. x / slotSets) (other-slot shelf (λ there. eqb-false at shelf w (sym there)))
+
+    number-put : Puts shelf flag new work last
+    number-put = record {
+      there = ap (slotAt last) (sym here) ∙ ap (λ x. x % slotSets) at-slot ∙ low;
+      others = λ i h. ap (λ x. x % slotSets) (other-slot i (λ w. h (w ∙ here))) ∙ same-set i;
+      apart = λ i h h′. other-slot i (λ w. h′ (w ∙ here)) ∙ other-shelf i h;
+      marks = same-marks ∙ ap (λ x. x / slotSets) at-shelf ∙ marked-marks (getD work shelf 0) flag mark e;
+    }
+
+  module _ (new : ℕ) (small : new < slotSets) where
+    -- at flag 0 the number keeps its marks
+    pub first-put : flag ≡ 0 → Puts shelf flag new work (set first shelf (getD first shelf 0 / slotSets * slotSets + new))
+    first-put zero-flag =
+        let above = marksAt first shelf in
+        number-put shelf (above * slotSets + new) new (omega arith) (digits-mod above small) (λ w. digits-div above small)
+
+    -- at another the set is the whole number
+    pub other-put : (flag ≡ 0 → ⊥) → Puts shelf flag new work (set first (shelf + flag) new)
+    other-put some-flag = number-put (shelf + flag) new new refl (omega arith) (λ w. absurd (some-flag (omega arith)))
 
 -- ---- a shelf stays marked
 -- the same numbers, here or elsewhere

@@ -5,7 +5,7 @@
 use mathlib.Core.Bool.{Bool, false, true}
 use mathlib.Core.List.{List, [], _++_, _∷_, append-nil}
 use mathlib.Core.Path.{_∙_, _≡_, ap, refl, subst, sym}
-use Prim.Native.Nat.{_*_, _+_, _-_, _<_, _^_, _≤_, suc, zero, ℕ}
+use Prim.Native.Nat.{_*_, _+_, _-_, _/_, _<_, _^_, _≤_, suc, zero, ℕ}
 use native.Mathlib.Nat.{pow-le-pow-right}
 use native.Mathlib.Omega.{arith}
 use borrow.Author.Tests.{eq-eqb, eqb-false, eqb-true}
@@ -16,7 +16,7 @@ use lib.Pow.{pow-mono, pow-pos}
 use Rattle.paper.specs.Lists.{each, upTo}
 use Rattle.laws.proofs.Bound.{few-beside}
 use Rattle.building.specs.Batch.{RoomFor, recordsIn}
-use Rattle.building.specs.Bounds.{batchRecords, fieldNumbers, mostFlags, waitingRecords, ruleSplits, splitRecords}
+use Rattle.building.specs.Bounds.{batchRecords, fieldNumbers, mostFlags, waitingRecords, ruleSplits, slotSets, splitRecords}
 use Rattle.building.specs.Rules.{Branch, Branches, FlagsOf, OneShelf, Room, Runs, Stands, Unites, flagsAt, pairAt, splitsRun}
 use Rattle.building.specs.Slots.{marksAt, slotAt}
 use Rattle.building.proofs.Marks.{Rest, first-below, first-onward, firstMark, laterMarks, none-between, rest-ends, rest-onward, rest-starts}
@@ -231,6 +231,11 @@ module _ {rule : Branch} {k : ℕ} {B W : List ℕ} {n count : ℕ} {B′ W′ :
   -- the splits beside one left flag have room
   pub beside-room : Room rule count B′ W′
   beside-room = room-stays batch-kept work-kept (done .shelf) room
+
+  -- and the right shelf's marks stay
+  pub beside-marks : marksAt W (rule .right) ≡ marksAt W′ (rule .right)
+  beside-marks =
+      ap (λ x. x / slotSets) (sym (done .shelf .below (rule .right) (omega (arith, room .right-before, some-flag (rule .size) (room .flags)))))
 
   pub beside-few : k ≤ waitingRecords → count + splitRecords * length (flagsAt (rule .own) (rule .size) n) ≤ batchRecords
   beside-few few =

@@ -9,7 +9,7 @@ ghost use Rattle.paper.specs.Building.{triple, recordSets};
 ghost use Rattle.building.specs.Batch.{setIn, Makes, RoomFor};
 ghost use Rattle.building.specs.Bounds.{batchRecords, fieldNumbers, mostFlags, waitingRecords, splitRecords, tripleRecords};
 ghost use Rattle.building.specs.Rules.{splitAt, flagsAt, Unites, Leaves, Branches, Room, Runs};
-ghost use Rattle.building.specs.Slots.{slotAt};
+ghost use Rattle.building.specs.Slots.{marksAt, slotAt};
 use crate::batch::Made;
 use crate::batch::product;
 use crate::batch::single;
@@ -113,11 +113,20 @@ fn split(
 // The splits of a branch rule whose left flag is b1, unless the left child's slot is empty: for each b2
 // ascending that shares no bit and at which the right child's slot is not empty. Such a b2 is marked: the
 // marks of the right shelf are taken one by one, the lowest first. The loop ends since each turn takes a
-// mark away. The rule writes its own shelf alone, so that what is read of the children's stays the same.
-fn beside(batch: &mut [u16], work: &mut [u64], k: usize, rule: Branch, b1: usize) -> usize
+// mark away. The rule writes its own shelf alone, so that what is read of the children's stays the same:
+// the marks are therefore read once for the whole rule, and come with the call.
+fn beside(
+    batch: &mut [u16],
+    work: &mut [u64],
+    k: usize,
+    rule: Branch,
+    b1: usize,
+    rights: u64,
+) -> usize
     requires { ⌜ Room rule k (now batch) (now work) ⌝ }
     requires { ⌜ (b1 < rule .size) × (bitAnd (rule .own) b1 ≡ 0) ⌝ }
     requires { ⌜ k + splitRecords * length (flagsAt (rule .own) (rule .size) b1) ≤ batchRecords ⌝ }
+    requires { ⌜ rights ≡ marksAt (now work) (rule .right) ⌝ }
     ensures { λ r. ⌜ Runs (flagsAt (rule .own) (rule .size) b1) rule k
         (now (batch .entry)) (now (work .entry)) r (now (batch .exit)) (now (work .exit)) ⌝ }
 {
@@ -128,7 +137,7 @@ fn beside(batch: &mut [u16], work: &mut [u64], k: usize, rule: Branch, b1: usize
         return k;
     }
     let mut count = k;
-    let mut marks = work[right] / SETS;
+    let mut marks = rights;
     while marks != 0 {
         // The lowest mark that is left; the last line of the turn takes it away.
         let b2 = u64::trailing_zeros(marks) as usize;
@@ -155,7 +164,8 @@ pub(crate) fn branch_rule(batch: &mut [u16], work: &mut [u64], k: usize, rule: B
     let left = rule.left;
     let right = rule.right;
     // Many rules have nothing on one side: they are passed over here, by one look at each of the two shelves.
-    if work[right] / SETS == 0 {
+    let rights = work[right] / SETS;
+    if rights == 0 {
         return k;
     }
     let mut count = k;
@@ -163,7 +173,7 @@ pub(crate) fn branch_rule(batch: &mut [u16], work: &mut [u64], k: usize, rule: B
     while marks != 0 {
         let b1 = u64::trailing_zeros(marks) as usize;
         if (rule.own & b1) == 0 {
-            count = beside(&mut *batch, &mut *work, count, rule, b1);
+            count = beside(&mut *batch, &mut *work, count, rule, b1, rights);
         }
         marks = marks & (marks - 1);
     }

@@ -18,9 +18,14 @@ pub(crate) fn put_set(work: &mut [u64], shelf: usize, flag: usize, set: u64)
     requires { ⌜ set < slotSets ⌝ }
     ensures { λ r. ⌜ Puts shelf flag set (now (work .entry)) (now (work .exit)) ⌝ }
 {
-    let at = shelf + flag;
     // There are at most 16 flags, so that the highest mark is bit 31.
     work[shelf] = work[shelf] | SETS << flag;
-    // What stands above the set stays: at flag 0 that is the marks.
-    work[at] = work[at] / SETS * SETS + set;
+    // At flag 0 the set stands in the number that has the marks, which stay.
+    if flag == 0 {
+        work[shelf] = work[shelf] / SETS * SETS + set;
+        return;
+    }
+    // What stands above another slot's set is nothing: marks stand in a shelf's first number alone.
+    let at = shelf + flag;
+    work[at] = set;
 }

@@ -9,19 +9,19 @@ use lib.ListN.{length}
 use Rattle.building.specs.Rules.{Runs, flagsAt}
 use Rattle.building.proofs.Marks.{fewer-marks, firstMark}
 use Rattle.building.proofs.Running.{skipped-left}
-use Rattle.building.proofs.Turns.{RightLoop, RightTurn, right-ends, right-onward, right-starts, right-turn, size-small, some-flag, split-room}
+use Rattle.building.proofs.Turns.{RightLoop, RightTurn, right-ends, right-onward, right-starts, right-turn, size-small, split-room}
 use Rattle.building.proofs.Turns.{with-empty, with-shared, with-split}
 use Rattle.building.proofs.rule.beside.Statement.{statement}
 use Rattle.building.proofs.rule.beside.Tie as tie
 
 abbrev Inv-loop : tie.InvT-loop
-Inv-loop batch₀ work₀ k rule b1 left right here count₀ marks₀ batch work count marks = RightLoop rule k batch₀ work₀ b1 marks count batch work
+Inv-loop batch₀ work₀ k rule b1 rights left right here count₀ marks₀ batch work count marks = RightLoop rule k batch₀ work₀ b1 marks count batch work
 
 abbrev μ-loop : tie.MeasureT-loop
-μ-loop batch₀ work₀ k rule b1 left right here count₀ marks₀ batch work count marks = marks
+μ-loop batch₀ work₀ k rule b1 rights left right here count₀ marks₀ batch work count marks = marks
 
 abbrev start : tie.In-loop Inv-loop μ-loop → tie.Start Inv-loop μ-loop
-start c = c .before .before .before .before .before .before .before
+start c = c .before .before .before .before .before .before
 
 -- the flag at hand
 abbrev flag : tie.In-loop Inv-loop μ-loop → ℕ
@@ -58,21 +58,10 @@ returns c =
     let a = begin .args in
     skipped-left (a .k) (a .batch .now) (a .work .now) (begin .pre .0 .low) (a .b1) (a .rule .size) (begin .pre .1 .0 .0) (c .if1 .taken)
 
-mul-marks : tie.Need-mul-marks Inv-loop μ-loop
-mul-marks c =
-    let begin = c .before .before .before .before in
-    let r = begin .pre .0 in
-    omega (arith, r .right-before, r .within, begin .good)
-
-slice-read-marks : tie.Need-slice-read-marks Inv-loop μ-loop
-slice-read-marks c =
-    let r = c .before .before .before .before .before .pre .0 in
-    omega (arith, r .right-before, r .within, some-flag _ (r .flags))
-
 loop-holds : tie.Need-loop-holds Inv-loop μ-loop
 loop-holds c =
-    let pre = c .before .before .before .before .before .pre in
-    right-starts (pre .0) (pre .1 .0 .0) (pre .1 .0 .1)
+    let pre = c .before .before .before .before .pre in
+    rw (pre .1 .1 .1) (right-starts (pre .0) (pre .1 .0 .0) (pre .1 .0 .1))
 
 cast-b2 : tie.Need-cast-b2 Inv-loop μ-loop
 cast-b2 c = omega (arith, trailing-le 64 (c .before .loop .marks))
@@ -101,7 +90,7 @@ split-requires : tie.Need-split-requires Inv-loop μ-loop
 split-requires c κs =
     let apart = c .before .before .before .before in
     let t = apart .before .before in
-    split-room (turn t) (apart .if2 .taken) ((start t) .pre .1 .1)
+    split-room (turn t) (apart .if2 .taken) ((start t) .pre .1 .1 .0)
 
 sub-marks : tie.Need-sub-marks Inv-loop μ-loop
 sub-marks c = omega (arith, c .before .before .loop-test .taken)
@@ -114,7 +103,7 @@ loop-again c =
     let t = c .before .before in
     let s = turn t in
     let pre = (start t) .pre in
-    let full = t .before .before .before .if1 .left in
+    let full = t .before .before .if1 .left in
     let next =
     ⊎-elim
     (λ w. subst₃ (Next t) (sym (w .10)) (sym (w .11)) (sym (w .12)) (
@@ -137,7 +126,7 @@ same-length-2 c = c .before .loop .inv .work-kept
 
 returns-2 : tie.Need-returns-2 Inv-loop μ-loop
 returns-2 c =
-    let pre = c .before .before .before .before .before .before .before .pre in
+    let pre = c .before .before .before .before .before .before .pre in
     right-ends (pre .0) (pre .1 .0 .0) (pre .1 .0 .1) (c .before .loop .inv) (c .loop-test .left)
 
 pub beside-spec : {M : Type 1} → statement M
@@ -150,8 +139,6 @@ beside-spec =
     mul-here
     slice-read-here
     returns
-    mul-marks
-    slice-read-marks
     loop-holds
     cast-b2
     add-if2

@@ -10,16 +10,16 @@ use lib.ListN.{length}
 use Rattle.paper.specs.Lists.{each, upTo}
 use Rattle.building.specs.Rules.{Runs, flagsAt}
 use Rattle.building.proofs.Marks.{fewer-marks, firstMark}
-use Rattle.building.proofs.Turns.{LeftLoop, LeftTurn, beside-few, beside-room, left-ends, left-onward, left-starts, left-turn, right-none}
+use Rattle.building.proofs.Turns.{LeftLoop, LeftTurn, beside-few, beside-marks, beside-room, left-ends, left-onward, left-starts, left-turn, right-none}
 use Rattle.building.proofs.Turns.{some-flag, with-left, without-left}
 use Rattle.building.proofs.rule.branch_rule.Statement.{statement}
 use Rattle.building.proofs.rule.branch_rule.Tie as tie
 
 abbrev Inv-loop : tie.InvT-loop
-Inv-loop batch₀ work₀ k rule left right count₀ marks₀ batch work count marks = LeftLoop rule k batch₀ work₀ marks count batch work
+Inv-loop batch₀ work₀ k rule left right rights count₀ marks₀ batch work count marks = LeftLoop rule k batch₀ work₀ marks count batch work
 
 abbrev μ-loop : tie.MeasureT-loop
-μ-loop batch₀ work₀ k rule left right count₀ marks₀ batch work count marks = marks
+μ-loop batch₀ work₀ k rule left right rights count₀ marks₀ batch work count marks = marks
 
 abbrev start : tie.In-loop Inv-loop μ-loop → tie.Start Inv-loop μ-loop
 start c = c .before .before .before .before .before .before .before
@@ -42,14 +42,14 @@ Next c batch work count =
     (length batch ≡ length (a .batch .now)) × (length work ≡ length (a .work .now))
     × Runs (each (upTo (flag c + 1)) (flagsAt (a .rule .own) (a .rule .size))) (a .rule) (a .k) (a .batch .now) (a .work .now) count batch work
 
-mul-if1 : tie.Need-mul-if1 Inv-loop μ-loop
-mul-if1 c =
+mul-rights : tie.Need-mul-rights Inv-loop μ-loop
+mul-rights c =
     let begin = c .before .before in
     let r = begin .pre .0 in
     omega (arith, r .right-before, r .within, begin .good)
 
-slice-read-if1 : tie.Need-slice-read-if1 Inv-loop μ-loop
-slice-read-if1 c =
+slice-read-rights : tie.Need-slice-read-rights Inv-loop μ-loop
+slice-read-rights c =
     let r = c .before .before .before .pre .0 in
     omega (arith, r .right-before, r .within, some-flag _ (r .flags))
 
@@ -78,7 +78,7 @@ beside-requires c κs =
     let there = c .before .before in
     let t = there .before .before in
     let s = turn t in
-    (beside-room s, ((s .left-flag, there .if2 .taken), beside-few s ((start t) .pre .1)))
+    (beside-room s, ((s .left-flag, there .if2 .taken), (beside-few s ((start t) .pre .1), beside-marks s)))
 
 sub-marks : tie.Need-sub-marks Inv-loop μ-loop
 sub-marks c = omega (arith, c .before .before .loop-test .taken)
@@ -113,8 +113,8 @@ branch-rule-spec =
     (tie.spec
     Inv-loop
     μ-loop
-    mul-if1
-    slice-read-if1
+    mul-rights
+    slice-read-rights
     returns
     mul-marks
     slice-read-marks

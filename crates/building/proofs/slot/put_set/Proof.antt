@@ -1,21 +1,19 @@
--- `slot::put_set` marks the flag and puts the set into its slot.
+-- `slot::put_set` marks the flag and puts the set into its slot: beside the marks, or as the whole number.
 use mathlib.Core.Path.{_∙_, _≡_}
-use Prim.Native.Nat.{_*_, _+_, _%_, _^_}
+use Prim.Native.Nat.{_*_, _<_, _%_, _^_}
 use native.Mathlib.Nat.{mul-comm}
 use native.Mathlib.Omega.{arith}
 use borrow.Author.Needs.{needs}
+use lib.ListN.{length}
 use lib.Pow.{shl-exact}
 use Rattle.building.specs.Bounds.{slotSets}
-use Rattle.building.proofs.Slots.{set-put, slot-fits}
+use Rattle.building.proofs.Slots.{first-put, other-put, slot-fits}
 use Rattle.building.proofs.slot.put_set.Statement.{statement}
 use Rattle.building.proofs.slot.put_set.Tie as tie
 
 -- the mark of the flag fits
 mark : (c : tie.Start) → (slotSets * 2 ^ c .args .flag) % 2 ^ 64 ≡ 2 ^ c .args .flag * 2 ^ 16
 mark c = shl-exact {a = slotSets} 17 (c .args .flag) 64 (omega arith) (omega arith) ∙ mul-comm slotSets (2 ^ c .args .flag)
-
-add-at : tie.Need-add-at
-add-at c = omega arith
 
 mul-work : tie.Need-mul-work
 mul-work c = omega arith
@@ -36,38 +34,61 @@ mul-work-3 : tie.Need-mul-work-3
 mul-work-3 c = omega arith
 
 slice-read-work-2 : tie.Need-slice-read-work-2
-slice-read-work-2 c = search needs
+slice-read-work-2 c =
+    let begin = c .before .before .before in
+    let inside : begin .args .shelf < length (begin .args .work .now) = omega (arith, begin .pre .0 .0) in
+    search (needs, inside)
 
 mul-work-4 : tie.Need-mul-work-4
 mul-work-4 c =
-    let a = c .before .before .args in
-    omega (arith, slot-fits _ 0 (c .slice-known2 .given (a .shelf + a .flag) .fits) (omega arith))
+    let a = c .before .before .before .args in
+    omega (arith, slot-fits _ 0 (c .slice-known2 .given (a .shelf) .fits) (omega arith))
 
 add-work : tie.Need-add-work
 add-work c =
-    let a = c .before .before .args in
-    omega (arith, slot-fits _ (a .set) (c .slice-known2 .given (a .shelf + a .flag) .fits) (c .before .before .pre .1))
+    let begin = c .before .before .before in
+    omega (arith, slot-fits _ (begin .args .set) (c .slice-known2 .given (begin .args .shelf) .fits) (begin .pre .1))
 
 mul-work-5 : tie.Need-mul-work-5
 mul-work-5 c = search needs
 
 slice-write-work-2 : tie.Need-slice-write-work-2
-slice-write-work-2 c = search needs
+slice-write-work-2 c =
+    let begin = c .before .before .before in
+    let inside : begin .args .shelf < length (begin .args .work .now) = omega (arith, begin .pre .0 .0) in
+    search (needs, inside)
 
 same-length : tie.Need-same-length
 same-length c = search needs
 
 returns : tie.Need-returns
 returns c =
-    let start = c .before .before in
-    let a = start .args in
-    set-put (a .work .now) (a .shelf) (a .flag) _ (a .set) (mark start) (start .pre .0 .0) (start .pre .1)
+    let begin = c .before .before .before in
+    let a = begin .args in
+    first-put (a .work .now) (a .shelf) (a .flag) _ (mark begin) (begin .pre .0 .0) (a .set) (begin .pre .1) (c .before .if1 .taken)
+
+add-at : tie.Need-add-at
+add-at c = search needs
+
+mul-work-6 : tie.Need-mul-work-6
+mul-work-6 c = search needs
+
+slice-write-work-3 : tie.Need-slice-write-work-3
+slice-write-work-3 c = search needs
+
+same-length-2 : tie.Need-same-length-2
+same-length-2 c = search needs
+
+returns-2 : tie.Need-returns-2
+returns-2 c =
+    let begin = c .before .before in
+    let a = begin .args in
+    other-put (a .work .now) (a .shelf) (a .flag) _ (mark begin) (begin .pre .0 .0) (a .set) (begin .pre .1) (c .if1 .left)
 
 pub put-set-spec : {M : Type 1} → statement M
 put-set-spec =
     tie.close
     (tie.spec
-    add-at
     mul-work
     slice-read-work
     shl-work
@@ -80,4 +101,9 @@ put-set-spec =
     mul-work-5
     slice-write-work-2
     same-length
-    returns)
+    returns
+    add-at
+    mul-work-6
+    slice-write-work-3
+    same-length-2
+    returns-2)
