@@ -16,10 +16,10 @@ use Rattle.laws.proofs.ReadTree.{tree-read}
 use Rattle.laws.proofs.Replies.{Passes, answered, refused-inj, refused-not-answer, unless-append}
 use Rattle.stream.specs.declared.head.QueryFacts.{QueryFacts}
 use Rattle.stream.specs.declared.tree.TreeFacts.{TreeFacts}
-use Rattle.stream.specs.RuleLists.{Room, RuleLists}
+use Rattle.stream.specs.RuleLists.{Listable, Lists, RuleLists}
 use Rattle.stream.specs.Reading.{queryFacts, queryReply, treeFacts, treeReply}
 use Rattle.stream.proofs.AfterTree.{facts-after-tree, reply-after-tree}
-use Rattle.stream.proofs.Room.{query-room, query-short}
+use Rattle.stream.proofs.Room.{query-listable}
 use Rattle.stream.proofs.EachRecord.{refused-append}
 use Rattle.building.specs.Bounds.{mostNodes, mostPlaces, mostRecords, mostStates}
 use Rattle.building.specs.Frames.{width}
@@ -163,25 +163,12 @@ module _ (input : List ℕ) (tree : TreeFacts) (query : QueryFacts) (f : ReadFac
       ap₂ (λ m n. (1 + m) * n) (f .most) (e ∙ ap₂ width (f .arity) (f .states))
       ∙ sym (work-frames (mostUnjoined (treeRecords (recordsOf input))) (queryIn input))
 
-  -- the lists have room for the rules, and a position fits their numbers
-  pub lists-room : {size : ℕ} → listNumbers ≤ size → (length input < 65536) × Room input (query .rules) size
-  lists-room {size} long =
+  -- the rules are listed, in lists that are long enough
+  pub rules-listed : (lists : List ℕ) {lists′ : List ℕ} → Lists input (query .rules) lists lists′ → listNumbers ≤ length lists → Listed input lists′
+  rules-listed lists {lists′} told long =
       let at : ℕ = 2 * nodesIn input in
-      let room = query-room input at (queryFacts input at) (sym (f .query-reply)) in (
-        omega (
-          arith,
-          query-short input at (queryFacts input at) (sym (f .query-reply)),
-          tree-read (treeRecords (recordsOf input)) passes .2,
-        ),
-        subst (λ n. Room input n size) (sym (f .rules)) (room size long),
-      )
-
-  pub rules-listed : {lists : List ℕ} {size : ℕ} → RuleLists input (query .rules) lists → length lists ≡ size → listNumbers ≤ size
-      → Listed input lists
-  rules-listed {lists} listed same long = record {
-    rules = subst (λ n. RuleLists input n lists) (f .rules) listed;
-    room = subst (λ n. Room input n (length lists)) (f .rules) (lists-room {size = length lists} (omega (arith, same)) .1);
-  }
+      let few = query-listable input at (queryFacts input at) (sym (f .query-reply)) (omega (arith, tree-read (treeRecords (recordsOf input)) passes .2)) in
+      subst (λ n. RuleLists input n lists′) (f .rules) (told (subst (Listable input) (sym (f .rules)) few) long)
 
   -- too short
   pub short-work : (work : List ℕ) (tableLength : ℕ) {n : ℕ} → n ≡ width (query .arity) (query .states) → length work < (1 + tree .most) * n

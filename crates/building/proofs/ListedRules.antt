@@ -1,16 +1,15 @@
--- The rules of the present node, by the lists: that the rule at hand has a cell in them, and that what they tell behind it is the node's
--- next rule. One law for every loop over the rules of a node. Assumes nothing.
+-- The rules of the present node, by the lists: what they tell behind the rule at hand is the node's next rule. One law for every loop
+-- over the rules of a node. Assumes nothing.
 use mathlib.Core.Bool.{true}
 use mathlib.Core.List.{List, _++_}
 use mathlib.Core.Logic.{⊎-elim}
 use mathlib.Core.Path.{_∙_, _≡_, ap, subst, sym}
-use Prim.Native.Nat.{_*_, _+_, _-_, _<_, _≤_, ℕ}
+use Prim.Native.Nat.{_+_, _-_, _<_, ℕ}
 use native.Mathlib.Omega.{arith}
 use lib.ListN.{drop, length}
 use Rattle.paper.specs.Stream.{number, recordsOf}
 use Rattle.stream.specs.Positions.{NextRule, after, isRuleFor, recordAt}
-use Rattle.stream.specs.RuleLists.{RuleLists, TellsNext, firstCell}
-use Rattle.stream.proofs.Told.{led-behind}
+use Rattle.stream.specs.RuleLists.{RuleLists, TellsNext}
 use Rattle.building.specs.Batch.{Record}
 use Rattle.building.specs.Kinds.{ruleAbove}
 use Rattle.building.specs.Listed.{Listed}
@@ -22,10 +21,6 @@ module _ (input : List ℕ) (t : State) (work : List ℕ) (made : List Record) (
   passed : recordsOf (drop (t .rules) input) ≡ s .rule .passed ++ recordsOf (drop (t .rule) input)
   passed = ap (λ n. recordsOf (drop n input)) (s .constants .rules) ∙ s .rule .records
 
-  -- it stands behind the head, and not behind the cells
-  pub rule-cell : (t .rules ≤ t .rule) × (t .rule < t .rules + 4 * (length lists - firstCell))
-  rule-cell = (led-behind (s .rule .passed) input (t .rules) (t .rule) here passed, omega (arith, here, listed .room .1, s .constants .rules))
-
   its-rule : isRuleFor (s .node .here .kind + ruleAbove) (number (s .node .here) 0) (recordAt input (t .rule)) ≡ true
   its-rule = ⊎-elim (λ e. absurd (omega arith)) (λ w. w .1) (s .rule .found)
 
@@ -33,5 +28,5 @@ module _ (input : List ℕ) (t : State) (work : List ℕ) (made : List Record) (
       → NextRule input (after input (t .rule)) (s .node .here .kind + ruleAbove) (number (s .node .here) 0) next
   next-listed told =
       told input (s .node .here .kind + ruleAbove) (number (s .node .here) 0) (s .rule .passed)
-      (subst (λ n. RuleLists input n lists) (sym (s .constants .rules)) (listed .rules))
+      (subst (λ n. RuleLists input n lists) (sym (s .constants .rules)) listed)
       (omega (arith, label-here input t (s .constants) (s .node), low-label input t (s .constants) (s .node))) here passed its-rule

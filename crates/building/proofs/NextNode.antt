@@ -9,6 +9,7 @@ use lib.ListN.{drop, getD, getD-replicate, length, length-append, length-drop, l
 use lib.Seq.{length-paste, paste}
 use Rattle.paper.specs.Refusals.{nodesIn}
 use Rattle.paper.specs.Stream.{StreamRecord, bodyLength, number, recordsOf, recordsWithin}
+use Rattle.laws.specs.StreamCauses.{RuleKind}
 use Rattle.stream.specs.Positions.{NextRule}
 use Rattle.stream.specs.RuleLists.{TellsFirst}
 use Rattle.building.specs.Batch.{Record, recordsIn}
@@ -101,9 +102,15 @@ module _ (input : List ℕ) (t : State) (work : List ℕ) (made : List Record) (
   has-come {rule} {kind} {label} {from} {n} {work′} {r = r} listed e₁ e₂ e k l told result =
       subst₂ (λ x w. Come input t work made x w) (sym result) (sym pasted) (come rule found)
     where
+      rules : RuleKind kind
+      rules = subst RuleKind (sym k) (coming-ready .rules)
+
+      low : label ≤ 63
+      low = omega (arith, l, coming-ready .label)
+
       -- the lists are of the records that the rules begin with
       search : NextRule input (t .rules) kind label rule
-      search = subst (λ x. NextRule input x kind label rule) (sym (s .constants .rules)) (told input (2 * nodesIn input + 3) (listed .rules))
+      search = subst (λ x. NextRule input x kind label rule) (sym (s .constants .rules)) (told input (2 * nodesIn input + 3) listed rules low)
 
       found : NextRule input (t .rules) (s .here .here .kind + ruleAbove) (number (s .here .here) 0) rule
       found =

@@ -17,7 +17,7 @@ use Rattle.paper.specs.Refusals.{nodesIn, queryIn}
 use Rattle.paper.specs.Stream.{recordsOf}
 use Rattle.stream.specs.RuleLists.{TellsAccepting}
 use Rattle.building.specs.Batch.{Made, Makes, Record, Set, empty, recordsIn, setIn}
-use Rattle.building.specs.Bounds.{mostFlags}
+use Rattle.building.specs.Bounds.{mostFlags, mostStates}
 use Rattle.building.specs.Branches.{shelfFrom}
 use Rattle.building.specs.Frames.{width}
 use Rattle.building.specs.Listed.{Listed}
@@ -124,11 +124,11 @@ root-ready input t work made s q hq = record {
         )
 
 module _ (t : State) (lists work : List ℕ) (q : ℕ) (m : Made) (more : t .count ≤ m .count) (few : m .count ≤ t .count + q)
-    (at-hand : m .set ≤ t .from + m .count + 1) (batch : List ℕ) (found : Bool) (told : TellsAccepting lists q found) where
+    (at-hand : m .set ≤ t .from + m .count + 1) (batch : List ℕ) (small : q < mostStates) (found : Bool) (told : TellsAccepting lists q found) where
   -- whether the state is accepting, of any input whose rules are listed
   tells : (input : List ℕ) → Constants input t → Listed input lists → found ≡ has (acceptingOf (recordsOf (drop (t .rules) input))) q
   tells input k listed =
-      told input (2 * nodesIn input + 3) (listed .rules) ∙ ap (λ n. has (acceptingOf (recordsOf (drop n input))) q) (sym (k .rules))
+      told input (2 * nodesIn input + 3) listed small ∙ ap (λ n. has (acceptingOf (recordsOf (drop n input))) q) (sym (k .rules))
 
   pub next-skipped : not found ≡ true → UnitesNext t lists work q m batch m batch
   next-skipped none = record {

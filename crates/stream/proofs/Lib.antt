@@ -4,7 +4,6 @@ pub mod Positions
 pub mod EachRecord
 pub mod TreeSteps
 pub mod TreeReading
-pub mod SaidAgain
 pub mod RuleSearch
 pub mod Fitting
 pub mod InRange

@@ -4,20 +4,19 @@ use mathlib.Core.Bool.{false, true, true≢false}
 use mathlib.Core.List.{List, List·Memᴰ·tail, [], _++_, _∷_, head-eq-of-cons-eq, nil≢cons, tail-eq-of-cons-eq}
 use mathlib.Core.Logic.{⊎-elim}
 use mathlib.Core.Path.{_∙_, _≡_, ap, refl, sym}
-use Prim.Native.Nat.{_<_, _≤_, suc, zero, ℕ}
+use Prim.Native.Nat.{_<_, _≤_, ℕ}
 use native.Mathlib.Omega.{arith}
-use lib.ListN.{drop, length, length-drop, take, take-append-drop}
+use lib.ListN.{drop, length}
 use Rattle.paper.specs.Lists.{_∈_}
 use Rattle.paper.specs.Refusals.{Reply, answer, refused}
-use Rattle.paper.specs.Stream.{StreamRecord, bodyLength, recordsOf, recordsWithin}
-use Rattle.laws.specs.StreamCauses.{written}
+use Rattle.paper.specs.Stream.{StreamRecord, recordsOf}
 use Rattle.laws.proofs.Answers.{refusal-told, refusalOf, told-apart}
 use Rattle.laws.proofs.Lists.{here}
 use Rattle.stream.specs.Positions.{NextRule, isRuleFor, recordAt}
 use Rattle.stream.specs.Reading.{QueryFacts, QueryRead, TreeFacts, TreeRead, queryReply, saysQuery, saysTree, treeReply}
 use Rattle.stream.specs.declared.head.QueryRead.the-variants as QueryReadIs
 use Rattle.stream.specs.declared.tree.TreeRead.the-variants as TreeReadIs
-use Rattle.stream.proofs.Positions.{records-here, records-none}
+use Rattle.stream.proofs.Positions.{one-rest, records-here, records-none}
 
 -- ---- the readers
 abbrev treeReadOf : Reply TreeFacts → TreeRead
@@ -45,25 +44,6 @@ pub one-query : (input : List ℕ) (at : ℕ) (r s : QueryRead) → saysQuery r 
 one-query input at r s a b = told-apart saysQuery queryReadOf query-told r s (a ∙ sym b)
 
 -- ---- the next rule
--- the records of bytes, written out, are the bytes
-written-records : (n : ℕ) (bytes : List ℕ) → length bytes ≤ n → written (recordsWithin n bytes) ≡ bytes
-written-records zero [] h = refl
-written-records zero (k ∷ bytes) h = absurd (omega arith)
-written-records (suc n) [] h = refl
-written-records (suc n) (k ∷ bytes) h =
-    ap {B = List ℕ} (λ z. k ∷ z)
-    (ap (λ z. take (bodyLength k) bytes ++ z) (written-records n (drop (bodyLength k) bytes) (omega (arith, length-drop (bodyLength k) bytes)))
-    ∙ take-append-drop (bodyLength k) bytes)
-
--- so records tell where they stand
-one-position : (input : List ℕ) (m n : ℕ) → m ≤ length input → n ≤ length input → recordsOf (drop m input) ≡ recordsOf (drop n input) → m ≡ n
-one-position input m n a b e = omega (arith, ap length bytes, length-drop m input, length-drop n input)
-  where
-    bytes : drop m input ≡ drop n input
-    bytes =
-        sym (written-records (length (drop m input)) (drop m input) (omega arith)) ∙ ap written e
-        ∙ written-records (length (drop n input)) (drop n input) (omega arith)
-
 module _ (kind label : ℕ) where
   -- the first of the records, if there is any, is a rule that is sought
   Starts : List StreamRecord → Type 0
@@ -95,10 +75,15 @@ module _ (kind label : ℕ) where
         stands : (next < length input) × (isRuleFor kind label (recordAt input next) ≡ true) → isRuleFor kind label r ≡ true
         stands p = ap (isRuleFor kind label) (head-eq-of-cons-eq (sym e ∙ records-here input next (p .0))) ∙ p .1
 
-    -- two results of `next_rule`
+    -- two positions that the lists could tell
     pub one-next-rule : (m n : ℕ) → NextRule input at kind label m → NextRule input at kind label n → m ≡ n
     unfolding None
     one-next-rule m n k l =
-        one-position input m n (found-inside m k) (found-inside n l)
-        (one-first (k .skipped) (l .skipped) (recordsOf (drop m input)) (recordsOf (drop n input)) (k .no-rule) (l .no-rule) (starts m k) (starts n l)
-        (sym (k .records) ∙ l .records))
+        omega (
+          arith,
+          found-inside m k,
+          found-inside n l,
+          one-rest input m n
+              (one-first (k .skipped) (l .skipped) (recordsOf (drop m input)) (recordsOf (drop n input)) (k .no-rule) (l .no-rule) (starts m k)
+              (starts n l) (sym (k .records) ∙ l .records)),
+        )

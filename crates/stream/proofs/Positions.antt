@@ -77,6 +77,13 @@ written-within (suc n) (k ∷ bytes) h =
 pub written-records : (bytes : List ℕ) → written (recordsOf bytes) ≡ bytes
 written-records bytes = written-within (length bytes) bytes (omega arith)
 
+-- so the same records from two positions on are as many bytes
+pub one-rest : (input : List ℕ) (m n : ℕ) → recordsOf (drop m input) ≡ recordsOf (drop n input) → length input - m ≡ length input - n
+one-rest input m n e =
+    sym (length-drop m input)
+    ∙ ap length (sym (written-records (drop m input)) ∙ ap written e ∙ written-records (drop n input))
+    ∙ length-drop n input
+
 -- bytes that begin with whole records make these records and then those of the rest
 records-begin : (records : List StreamRecord) (rest : List ℕ) → ((r : StreamRecord) → r ∈ records → length (r .body) ≡ bodyLength (r .kind))
     → recordsOf (written records ++ rest) ≡ records ++ recordsOf rest

@@ -4,7 +4,7 @@ use mathlib.Core.Bool.{true}
 use mathlib.Core.List.{List, List·Memᴰ·tail, [], _∷_}
 use mathlib.Core.Logic.{⊎-elim}
 use mathlib.Core.Path.{_∙_, _≡_, ap, subst, sym}
-use Prim.Native.Nat.{_*_, _+_, _<_, _≤_, ℕ}
+use Prim.Native.Nat.{_*_, _+_, _≤_, ℕ}
 use native.Mathlib.Omega.{arith}
 use borrow.Author.Tests.{eqb-false, eqb-true}
 use lib.Dec.{eqb}
@@ -21,7 +21,7 @@ use Rattle.laws.proofs.ReadQuery as read
 use Rattle.laws.proofs.Replies.{answered}
 use Rattle.stream.specs.OneRecord.{queryWith}
 use Rattle.stream.specs.Reading.{QueryFacts, queryReply}
-use Rattle.stream.specs.RuleLists.{Room, listNumbers}
+use Rattle.stream.specs.RuleLists.{Listable, mostBytes}
 use Rattle.stream.proofs.AfterTree.{kinds-read, query-read, whole-read}
 use Rattle.stream.proofs.Positions.{written-records}
 use Rattle.stream.proofs.RuleSearch.{rule-between}
@@ -56,7 +56,7 @@ module _ (input : List ℕ) (at : ℕ) (f : QueryFacts) (e : answer f ≡ queryR
       (read.query-read (recordsOf (drop at input)) (answered (queryPart (recordsOf (drop at input))) (sym e) .0))
 
   -- a query that is read ends so soon behind its head
-  pub query-short : length input ≤ f .rules + (1024 * 6 + 16 * 2)
+  query-short : length input ≤ f .rules + mostBytes
   query-short =
       omega (
         arith,
@@ -68,12 +68,8 @@ module _ (input : List ℕ) (at : ℕ) (f : QueryFacts) (e : answer f ≡ queryR
         query .few-states,
       )
 
-  -- so lists that are long enough have room for its rules
-  pub query-room : (size : ℕ) → listNumbers ≤ size → Room input (f .rules) size
-  query-room size h = (omega arith, omega (arith, query-short))
-
   -- and behind a tree that is read it stands so early that its positions, and the end of the input, fit 16 bits
-  pub positions-fit : at ≤ 2 * 4095 → length input < 65536
-  positions-fit h =
+  pub query-listable : at ≤ 2 * 4095 → Listable input (f .rules)
+  query-listable h =
       let behind : at + 3 ≡ f .rules = ap (λ (g : QueryFacts). g .rules) (answered (queryPart (recordsOf (drop at input))) (sym e) .1) in
-      omega (arith, query-short)
+      (omega (arith, query-short), query-short)

@@ -2,7 +2,7 @@
 -- the cell of each rule is its own.
 use mathlib.Core.Bool.{false, true}
 use mathlib.Core.List.{List}
-use mathlib.Core.Logic.{⊎-elim}
+use mathlib.Core.Logic.{inl, inr, ⊎-elim}
 use mathlib.Core.Path.{_∙_, _≡_, subst, sym}
 use Prim.Native.Nat.{_+_, _<_, _≤_, suc, zero, ℕ}
 use native.Mathlib.Omega.{arith}
@@ -14,7 +14,7 @@ use Rattle.paper.specs.Stream.{StreamRecord, number}
 use Rattle.laws.specs.StreamCauses.{RuleKind}
 use Rattle.laws.proofs.Lists.{both-true, iff-eq, which}
 use Rattle.stream.specs.Positions.{after, recordAt}
-use Rattle.stream.specs.RuleLists.{SymbolAt, cellOf, isFor, kindFor, labelFor, place, symbol, symbols}
+use Rattle.stream.specs.RuleLists.{SymbolAt, SymbolOf, cellOf, isFor, kindFor, labelFor, place, symbol, symbols}
 use Rattle.stream.proofs.RuleSearch.{by-label, other-kind, rule-between}
 
 -- ---- a symbol has its kind and its label, and no other
@@ -48,7 +48,7 @@ none-behind s h = ne-eqb symbols s (λ e. omega arith)
 
 module _ (input : List ℕ) (at : ℕ) (inside : at < length input) where
   -- a record of another kind has none
-  pub no-symbol : (getD input at 0 ≡ 17 → ⊥) → (getD input at 0 ≡ 18 → ⊥) → SymbolAt input at symbols
+  no-symbol : (getD input at 0 ≡ 17 → ⊥) → (getD input at 0 ≡ 18 → ⊥) → SymbolAt input at symbols
   no-symbol a b s h =
       sym (other-kind input at (kindFor s) (labelFor s) inside (λ e. ⊎-elim a b (rule-between (getD input at 0) (omega arith) (omega arith))))
       ∙ sym (none-behind s h)
@@ -70,12 +70,12 @@ module _ (input : List ℕ) (at : ℕ) (inside : at < length input) where
             sym (other-kind input at (kindFor s) (labelFor s) inside z) ∙ sym (g z)
 
     -- with a label that is too high it has none
-    pub high-label : 63 < getD input (at + 1) 0 → SymbolAt input at symbols
+    high-label : 63 < getD input (at + 1) 0 → SymbolAt input at symbols
     high-label h s b =
         by-test symbols s (λ z. ne-eqb (getD input (at + 1) 0) (labelFor s) (λ e. omega arith) ∙ sym (none-behind s b)) (λ z. none-behind s b)
 
     -- any other has that of its kind and label
-    pub symbol-here : getD input (at + 1) 0 ≤ 63 → SymbolAt input at (symbol (getD input at 0) (getD input (at + 1) 0))
+    symbol-here : getD input (at + 1) 0 ≤ 63 → SymbolAt input at (symbol (getD input at 0) (getD input (at + 1) 0))
     symbol-here h s b =
         by-test (symbol (getD input at 0) (getD input (at + 1) 0)) s
         (λ z.
@@ -83,6 +83,27 @@ module _ (input : List ℕ) (at : ℕ) (inside : at < length input) where
         (λ w. eq-eqb _ s (omega (arith, eqb-true (getD input (at + 1) 0) (labelFor s) w)))
         (λ w. eq-eqb (getD input (at + 1) 0) (labelFor s) (omega (arith, eqb-true (symbol (getD input at 0) (getD input (at + 1) 0)) s w))))
         (λ z. ne-eqb _ s (λ w. z (let k = its-kind (getD input at 0) (getD input (at + 1) 0) rule h in omega (arith, k))))
+
+  -- so its first two bytes tell its symbol
+  pub symbol-told : (x : ℕ) → SymbolOf (getD input at 0) (getD input (at + 1) 0) x → SymbolAt input at x
+  symbol-told x is = ⊎-elim leaf (λ a. ⊎-elim branch (λ b. none (eqb-false _ 17 a) (eqb-false _ 18 b)) (which (eqb (getD input at 0) 18)))
+      (which (eqb (getD input at 0) 17))
+    where
+      none : (getD input at 0 ≡ 17 → ⊥) → (getD input at 0 ≡ 18 → ⊥) → SymbolAt input at x
+      none a b = subst (SymbolAt input at) (sym (is .other (⊎-elim a b))) (no-symbol a b)
+
+      rule : RuleKind (getD input at 0) → SymbolAt input at x
+      rule r =
+          ⊎-elim
+          (λ h. let high = ltb-true 63 (getD input (at + 1) 0) h in subst (SymbolAt input at) (sym (is .high high)) (high-label r high))
+          (λ h. let low = ltb-false 63 (getD input (at + 1) 0) h in subst (SymbolAt input at) (sym (is .right r low)) (symbol-here r low))
+          (which (ltb 63 (getD input (at + 1) 0)))
+
+      leaf : eqb (getD input at 0) 17 ≡ true → SymbolAt input at x
+      leaf e = rule (inl (eqb-true (getD input at 0) 17 e))
+
+      branch : eqb (getD input at 0) 18 ≡ true → SymbolAt input at x
+      branch e = rule (inr (eqb-true (getD input at 0) 18 e))
 
 -- ---- positions
 module _ (input : List ℕ) (from : ℕ) where

@@ -12,22 +12,15 @@ use lib.ListN.{drop, getD, length, length-append, length-drop}
 use Rattle.paper.specs.Lists.{_∈_}
 use Rattle.paper.specs.Query.{isRuleKind}
 use Rattle.paper.specs.Stream.{StreamRecord, bodyLength, number, recordsOf, recordsWithin}
-use Rattle.laws.specs.StreamCauses.{RuleKind, written}
+use Rattle.laws.specs.StreamCauses.{RuleKind}
 use Rattle.laws.proofs.Lists.{both-true, here, which}
 use Rattle.stream.specs.Positions.{NextRule, after, isRuleFor, recordAt}
-use Rattle.stream.specs.RuleLists.{RuleLists, TellsFirst, TellsNext, cellOf, chain, isFor, kindFor, labelFor, place, positions, rulesFor}
+use Rattle.stream.specs.RuleLists.{RuleLists, SymbolOf, TellsFirst, TellsNext, cellOf, chain, isFor, kindFor, labelFor, place, positions, rulesFor}
 use Rattle.stream.specs.RuleLists.{symbol, symbols}
-use Rattle.stream.proofs.Positions.{records-here, records-none, written-records}
+use Rattle.stream.proofs.Positions.{one-rest, records-here, records-none}
 use Rattle.stream.proofs.Symbols.{its-kind, its-label, place-from, symbol-low}
 
 -- ---- positions that records lead to
--- the same records from two positions on are from one position on, as they have the same bytes
-one-position : (input : List ℕ) (a b : ℕ) → b < length input → recordsOf (drop a input) ≡ recordsOf (drop b input) → a ≡ b
-one-position input a b h e = omega (arith, ap length same, length-drop a input, length-drop b input)
-  where
-    same : drop a input ≡ drop b input
-    same = sym (written-records (drop a input)) ∙ ap written e ∙ written-records (drop b input)
-
 next-place : (input : List ℕ) (from i : ℕ) → place input (after input from) i ≡ place input from (suc i)
 next-place input from zero = refl
 next-place input from (suc i) = ap (after input) (next-place input from i)
@@ -35,7 +28,7 @@ next-place input from (suc i) = ap (after input) (next-place input from i)
 -- so where the records passed and those from a position on are all records, the position is the place behind those passed
 pub place-found : (passed : List StreamRecord) (input : List ℕ) (from rule : ℕ) → rule < length input
     → recordsOf (drop from input) ≡ passed ++ recordsOf (drop rule input) → place input from (length passed) ≡ rule
-place-found [] input from rule h e = one-position input from rule h e
+place-found [] input from rule h e = omega (arith, one-rest input from rule e)
 place-found (r ∷ rs) input from rule h e =
     ⊎-elim
     (λ w. sym (next-place input from (length rs)) ∙ place-found rs input (after input from) rule h (rest (ltb-true from (length input) w)))
@@ -69,9 +62,13 @@ module _ (kind label : ℕ) (rule : RuleKind kind) (low : label ≤ 63) where
   of-symbol : (P : ℕ → ℕ → Type 0) → P (kindFor (symbol kind label)) (labelFor (symbol kind label)) → P kind label
   of-symbol P h = subst (λ a. P a label) (its-kind kind label rule low) (subst (P (kindFor (symbol kind label))) (its-label kind label rule low) h)
 
-  pub tells-first : (lists : List ℕ) → TellsFirst lists kind label (getD lists (symbol kind label) 0)
-  tells-first lists input from k =
+  first-told : (lists input : List ℕ) (from : ℕ) → RuleLists input from lists → NextRule input from kind label (getD lists (symbol kind label) 0)
+  first-told lists input from k =
       of-symbol (λ a l. NextRule input from a l (getD lists (symbol kind label) 0)) (k .first (symbol kind label) (symbol-low kind label rule low))
+
+pub tells-first : (lists : List ℕ) (kind label x : ℕ) → SymbolOf kind label x → TellsFirst lists kind label (getD lists x 0)
+tells-first lists kind label x is input from k rule low =
+    subst (λ s. NextRule input from kind label (getD lists s 0)) (sym (is .right rule low)) (first-told kind label rule low lists input from k)
 
 rule-kind : (kind label : ℕ) (r : StreamRecord) → isRuleFor kind label r ≡ true → RuleKind kind
 rule-kind kind label r e = ⊎-elim (λ w. inl (eqb-true kind 17 w)) (λ w. inr (eqb-true kind 18 (branch w))) (which (eqb kind 17))
@@ -81,6 +78,10 @@ rule-kind kind label r e = ⊎-elim (λ w. inl (eqb-true kind 17 w)) (λ w. inr 
 
     branch : eqb kind 17 ≡ false → eqb kind 18 ≡ true
     branch w = rw w at is-kind
+
+-- before the first rule no rule is told
+pub tells-none : (lists : List ℕ) (from rule : ℕ) → rule < from → TellsNext lists from rule 0
+tells-none lists from rule before input kind label passed k low h e is = absurd (omega (arith, led-behind passed input from rule h e))
 
 pub tells-next : (lists : List ℕ) (from rule : ℕ) → TellsNext lists from rule (getD lists (cellOf from rule) 0)
 tells-next lists from rule input kind label passed k low h e is =

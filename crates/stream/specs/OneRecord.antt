@@ -1,10 +1,10 @@
 -- One record of the tree, or of the query, after those before it: the state that a loop carries, and what one step answers.
 -- Last the search for a record that begins with given bytes.
-use mathlib.Core.Bool.{Bool, true, false, _&&_, _||_}
+use mathlib.Core.Bool.{Bool, true, _&&_}
 use mathlib.Core.List.{List, [], _∷_}
 use mathlib.Core.Path.{_≡_}
-use Prim.Native.Nat.{ℕ, suc, _≤_, _<_}
-use lib.Dec.{eqb, leb, ltb}
+use Prim.Native.Nat.{ℕ, _≤_, _<_}
+use lib.Dec.{leb, ltb}
 use lib.ListN.{length, getD, drop}
 use Rattle.paper.specs.Stream.{StreamRecord, whole, recordsOf, isTreeKind}
 use Rattle.paper.specs.Tree.{unjoined, mostUnjoined}
@@ -104,14 +104,3 @@ saysQueryStep (QueryStepIs.Refused r) = refused (numberOf r)
 -- all of them, behind a head with these facts
 abbrev pub laterReply : List ℕ → QueryFacts → Reply QueryFacts
 laterReply input f = unless (atEach (λ before r. laterTests (queryWith f before) r) [] (recordsOf (drop (f .rules) input))) f
-
--- ---- what is said
--- from index i on, the record's kind and then its numbers are these
-abbrev pub saysFrom : ℕ → List ℕ → StreamRecord → Bool
-saysFrom i [] r = true
-saysFrom i (x ∷ xs) r = eqb (getD (r .kind ∷ r .body) i 0) x && saysFrom (suc i) xs r
-
--- a record of the list begins with this kind and these numbers
-abbrev pub isSaid : List ℕ → List StreamRecord → Bool
-isSaid words [] = false
-isSaid words (r ∷ rs) = saysFrom 0 words r || isSaid words rs

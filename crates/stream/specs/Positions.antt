@@ -1,5 +1,5 @@
 -- Records by their position in the input: the one that stands at a position, and those between two positions.
--- Then where whole records stand, and what `next_rule` tells.
+-- Then where whole records stand, and what it is to be the next rule of a symbol.
 use mathlib.Core.Path.{_≡_}
 use mathlib.Core.Logic.{_⊎_}
 use mathlib.Core.Bool.{Bool, true, false, _&&_}

@@ -11,6 +11,7 @@ use Rattle.paper.specs.Lists.{has}
 use Rattle.paper.specs.Query.{acceptingOf}
 use Rattle.paper.specs.Questions.{hasPlace}
 use Rattle.paper.specs.Stream.{StreamRecord, recordsOf}
+use Rattle.laws.specs.StreamCauses.{RuleKind}
 use Rattle.stream.specs.Positions.{recordAt, after, isRuleFor, NextRule}
 
 -- ---- symbols: each label of leaf rules, then each of branch rules
@@ -28,6 +29,12 @@ kindFor s = 17 + s / labels
 
 abbrev pub labelFor : ℕ → ℕ
 labelFor s = s % labels
+
+-- the number of the symbol of a kind and a label, or of no symbol: where the label is one that no node has, or the kind no rule's
+pub record SymbolOf (kind label x : ℕ) : Type 0 where
+  pub right : RuleKind kind → label ≤ 63 → x ≡ symbol kind label
+  pub high : 63 < label → x ≡ symbols
+  pub other : (RuleKind kind → ⊥) → x ≡ symbols
 
 -- a rule of the symbol
 abbrev pub isFor : ℕ → StreamRecord → Bool
@@ -57,10 +64,17 @@ cellOf from at = firstCell + (at - from) / 4
 abbrev pub Room : List ℕ → ℕ → ℕ → Type 0
 Room input from size = (firstCell ≤ size) × (length input ≤ from + 4 * (size - firstCell))
 
--- so long are lists that have room for any query that is read: behind its head it has at most 1,024 rules, of at most six bytes, and 16
--- accepting states, of two
+-- a query that is read has at most so many bytes behind its head: 1,024 rules, of at most six bytes, and 16 accepting states, of two
+abbrev pub mostBytes : ℕ
+mostBytes = 1024 * 6 + 16 * 2
+
+-- so long are lists that have room for any such query
 abbrev pub listNumbers : ℕ
-listNumbers = firstCell + (1024 * 6 + 16 * 2) / 4
+listNumbers = firstCell + mostBytes / 4
+
+-- there are no more bytes from `from` on, and each position, and the end of the input, fits a number of the lists
+abbrev pub Listable : List ℕ → ℕ → Type 0
+Listable input from = (length input < 65536) × (length input ≤ from + mostBytes)
 
 -- ---- what the lists say
 pub record RuleLists (input : List ℕ) (from : ℕ) (lists : List ℕ) : Type 0 where
@@ -69,6 +83,10 @@ pub record RuleLists (input : List ℕ) (from : ℕ) (lists : List ℕ) : Type 0
       → NextRule input (after input (place input from i)) (kindFor s) (labelFor s) (getD lists (cellOf from (place input from i)) 0)
   pub accepting : (q : ℕ) → q < 16 → hasPlace (getD lists acceptingCell 0) q ≡ has (acceptingOf (recordsOf (drop from input))) q
 
+-- lists that are long enough become these, where there is no more to list than a query has
+abbrev pub Lists : List ℕ → ℕ → List ℕ → List ℕ → Type 0
+Lists input from lists lists′ = Listable input from → listNumbers ≤ length lists → RuleLists input from lists′
+
 -- one more record: these states, and its own if it is an accepting one's
 abbrev pub AddsState : List ℕ → ℕ → ℕ → ℕ → Type 0
 AddsState input at old new = (q : ℕ) → q < 16 → hasPlace new q ≡ hasPlace old q || has (acceptingOf (recordAt input at ∷ [])) q
@@ -76,7 +94,8 @@ AddsState input at old new = (q : ℕ) → q < 16 → hasPlace new q ≡ hasPlac
 -- ---- what a reader of the lists is told, whatever input they are of
 -- the first rule of a kind and a label
 abbrev pub TellsFirst : List ℕ → ℕ → ℕ → ℕ → Type 0
-TellsFirst lists kind label r = (input : List ℕ) (from : ℕ) → RuleLists input from lists → NextRule input from kind label r
+TellsFirst lists kind label r =
+    (input : List ℕ) (from : ℕ) → RuleLists input from lists → RuleKind kind → label ≤ 63 → NextRule input from kind label r
 
 -- the rule behind one, of its kind and label: that one stands where the records passed lead to
 abbrev pub TellsNext : List ℕ → ℕ → ℕ → ℕ → Type 0
@@ -87,7 +106,8 @@ TellsNext lists from rule r =
 
 -- whether a state is accepting
 abbrev pub TellsAccepting : List ℕ → ℕ → Bool → Type 0
-TellsAccepting lists state r = (input : List ℕ) (from : ℕ) → RuleLists input from lists → r ≡ has (acceptingOf (recordsOf (drop from input))) state
+TellsAccepting lists state r =
+    (input : List ℕ) (from : ℕ) → RuleLists input from lists → state < 16 → r ≡ has (acceptingOf (recordsOf (drop from input))) state
 
 -- ---- all rules of a symbol: the positions that the lists lead to from one on
 abbrev pub chain : ℕ → List ℕ → ℕ → ℕ → ℕ → List ℕ

@@ -4,8 +4,7 @@
 ghost use mathlib.Core.Path.{_≡_};
 ghost use Prim.Native.Nat.{ℕ, _+_, _*_, _-_, _≤_, _<_};
 ghost use lib.ListN.{length, getD, set};
-ghost use Rattle.laws.specs.StreamCauses.{RuleKind};
-ghost use Rattle.stream.specs.RuleLists.{symbols, symbol, SymbolAt, firstCell, cellOf, Room, RuleLists, AddsState, TellsFirst, TellsNext, TellsAccepting};
+ghost use Rattle.stream.specs.RuleLists.{Lists, SymbolOf, symbols, symbol, SymbolAt, cellOf, Room, RuleLists, AddsState, TellsFirst, TellsNext, TellsAccepting};
 use crate::lengths::body_length;
 use crate::record::byte_at;
 use paper::kinds::ACCEPTING_STATE;
@@ -42,12 +41,19 @@ const MOST_BYTES: usize = MOST_RULES * LONGEST_RULE + MOST_STATES * STATE_RECORD
 // So long are lists that have room for the rules of any query that is read: 1,673 numbers.
 pub const LIST_NUMBERS: usize = FIRST_CELL + MOST_BYTES / SHORTEST_RULE;
 
-// The number of a symbol.
+// The number of the symbol of a kind and a label; `SYMBOLS` where the kind is no rule's, or the label one
+// that no node has.
 fn symbol_of(kind: u8, label: u8) -> usize
-    requires { ⌜ RuleKind kind × (label ≤ 63) ⌝ }
-    ensures { λ r. ⌜ r ≡ symbol kind label ⌝ }
+    ensures { λ r. ⌜ SymbolOf kind label r ⌝ }
 {
-    (kind - LEAF_RULE) as usize * LABELS + label as usize
+    if HIGHEST_LABEL < label {
+        return SYMBOLS;
+    }
+    match kind {
+        LEAF_RULE => label as usize,
+        BRANCH_RULE => LABELS + label as usize,
+        _ => SYMBOLS,
+    }
 }
 
 // The cell of the rule at a position. There is one for as many bytes as the shortest rule has, so no
@@ -65,17 +71,7 @@ fn symbol_at(input: &[u8], at: usize) -> usize
     requires { ⌜ at < length (now input) ⌝ }
     ensures { λ r. ⌜ SymbolAt (now (input .entry)) at r ⌝ }
 {
-    let kind = input[at];
-    match kind {
-        LEAF_RULE | BRANCH_RULE => {
-            let label = byte_at(input, at + 1);
-            if HIGHEST_LABEL < label {
-                return SYMBOLS;
-            }
-            symbol_of(kind, label)
-        }
-        _ => SYMBOLS,
-    }
+    symbol_of(input[at], byte_at(input, at + 1))
 }
 
 // No rule yet: each list ends at once, and its last cell is its first.
@@ -125,7 +121,7 @@ fn with_state(input: &[u8], at: usize, accepting: u16) -> u16
 
 // The lists of the rules that stand from a position on, in file order: a rule is put behind the last
 // one of its symbol, whose cell is kept in `last`.
-pub fn list_rules(input: &[u8], from: usize, lists: &mut [u16])
+fn link_rules(input: &[u8], from: usize, lists: &mut [u16])
     requires { ⌜ length (now input) < 65536 ⌝ }
     requires { ⌜ Room (now input) from (length (now lists)) ⌝ }
     ensures { λ _. ⌜ RuleLists (now (input .entry)) from (now (lists .exit)) ⌝ }
@@ -148,37 +144,71 @@ pub fn list_rules(input: &[u8], from: usize, lists: &mut [u16])
     lists[ACCEPTING_CELL] = accepting;
 }
 
-// In a function of its own so that the cast is proved once.
-fn wide(x: u16) -> usize
-    ensures { λ r. ⌜ r ≡ x ⌝ }
+// How many bytes stand from a position on.
+fn bytes_behind(input: &[u8], from: usize) -> usize
+    ensures { λ r. ⌜ r ≡ length (now (input .entry)) - from ⌝ }
 {
-    x as usize
+    if from < input.len() {
+        input.len() - from
+    } else {
+        0
+    }
+}
+
+// The highest position that a number of the lists can tell: the end of an input is one.
+const HIGHEST_POSITION: usize = 65535;
+
+// The lists of a query, whose records stand from a position on. Any bytes are taken: where they are more
+// than a query that is read has, or the lists too short for that, nothing is listed.
+pub fn list_rules(input: &[u8], from: usize, lists: &mut [u16])
+    ensures { λ _. ⌜ Lists (now (input .entry)) from (now (lists .entry)) (now (lists .exit)) ⌝ }
+{
+    if lists.len() < LIST_NUMBERS {
+        return;
+    }
+    if HIGHEST_POSITION < input.len() {
+        return;
+    }
+    if MOST_BYTES < bytes_behind(input, from) {
+        return;
+    }
+    link_rules(input, from, &mut *lists);
+}
+
+// The number in a cell, and 0 behind the last one, so that nothing is asked of the lists.
+fn number_in(lists: &[u16], cell: usize) -> usize
+    ensures { λ r. ⌜ r ≡ getD (now (lists .entry)) cell 0 ⌝ }
+{
+    if cell < lists.len() {
+        lists[cell] as usize
+    } else {
+        0
+    }
 }
 
 // The first rule of a kind and a label, and the end of the input where there is none.
 pub fn first_rule(lists: &[u16], kind: u8, label: u8) -> usize
-    requires { ⌜ RuleKind kind × (label ≤ 63) ⌝ }
-    requires { ⌜ symbols ≤ length (now lists) ⌝ }
     ensures { λ r. ⌜ TellsFirst (now (lists .entry)) kind label r ⌝ }
 {
-    let symbol = symbol_of(kind, label);
-    wide(lists[symbol])
+    number_in(lists, symbol_of(kind, label))
 }
 
-// The rule behind one, of its kind and label.
+// The rule behind one, of its kind and label. Before the first rule there is none to stand behind.
 pub fn rule_after(lists: &[u16], from: usize, rule: usize) -> usize
-    requires { ⌜ (from ≤ rule) × (rule < from + 4 * (length (now lists) - firstCell)) ⌝ }
     ensures { λ r. ⌜ TellsNext (now (lists .entry)) from rule r ⌝ }
 {
-    let cell = cell_of(from, rule);
-    wide(lists[cell])
+    if rule < from {
+        return 0;
+    }
+    number_in(lists, cell_of(from, rule))
 }
 
-// Whether a state is accepting.
+// Whether a state is accepting. No other than the first 16 ever is.
 pub fn accepts(lists: &[u16], state: usize) -> bool
-    requires { ⌜ state < 16 ⌝ }
-    requires { ⌜ firstCell ≤ length (now lists) ⌝ }
     ensures { λ r. ⌜ TellsAccepting (now (lists .entry)) state r ⌝ }
 {
-    (lists[ACCEPTING_CELL] >> state) % 2 == 1
+    if MOST_STATES <= state {
+        return false;
+    }
+    (number_in(lists, ACCEPTING_CELL) >> state) % 2 == 1
 }

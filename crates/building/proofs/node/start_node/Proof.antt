@@ -35,9 +35,7 @@ shared-slice-read-first-rule-2 : tie.Need-shared-slice-read-first-rule-2
 shared-slice-read-first-rule-2 c = omega (arith, ready (c .before .before .before .before .before .before .before .before .before .before .before))
 
 first-rule-requires : tie.Need-first-rule-requires
-first-rule-requires c κs =
-    let start = c .before .before .before .before .before .before .before .before .before .before .before in
-    ((ready start .rules, ready start .label), omega (arith, start .pre .1 .room .0))
+first-rule-requires c κs = search needs
 
 same-length : tie.Need-same-length
 same-length c = search needs

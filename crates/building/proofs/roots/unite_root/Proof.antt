@@ -3,6 +3,7 @@ use Prim.Native.Nat.{_+_, _-_, _<_, _≤_}
 use native.Mathlib.Omega.{arith}
 use borrow.Author.Needs.{needs}
 use lib.ListN.{length}
+use Rattle.building.specs.Bounds.{mostStates}
 use Rattle.building.specs.Slots.{slotAt}
 use Rattle.building.proofs.UnitedRoots.{RootReady, next-skipped, next-united, root-ready}
 use Rattle.building.proofs.roots.unite_root.Statement.{statement}
@@ -16,16 +17,18 @@ ready c =
     root-ready (c .pre .0 .0 .0) (a .t) (a .work .now) made s (a .state) (c .pre .1 .0 .0)
 
 accepts-requires : tie.Need-accepts-requires
-accepts-requires c κs =
-    let start = c .before .before .before in
-    (omega (arith, ready start, start .pre), omega (arith, start .pre .0 .0 .1 .1 .room .0))
+accepts-requires c κs = search needs
+
+-- the state is one of 16
+small : (c : tie.Start) → c .args .state < mostStates
+small c = omega (arith, ready c, c .pre)
 
 returns : tie.Need-returns
 returns c =
     let start = c .before .before .before .before .before in
     let a = start .args in
     next-skipped (a .t) (a .lists .now) (a .work .now) (a .state) (a .made) (start .pre .1 .1 .0) (start .pre .1 .1 .1)
-    (start .pre .1 .1 .2) (a .batch .now) (c .before .accepts .result) (c .before .accepts .ensures) (c .if1 .taken)
+    (start .pre .1 .1 .2) (a .batch .now) (small start) (c .before .accepts .result) (c .before .accepts .ensures) (c .if1 .taken)
 
 flags-requires : tie.Need-flags-requires
 flags-requires c κs = omega (arith, ready (c .before .before .before .before .before))
@@ -82,7 +85,7 @@ returns-2 c =
     let s = start shelf in
     let a = s .args in
     next-united (a .t) (a .lists .now) (a .work .now) (a .state) (a .made) (s .pre .1 .1 .0) (s .pre .1 .1 .1)
-    (s .pre .1 .1 .2) (a .batch .now) (asked .accepts .result) (asked .accepts .ensures) (shelf .before .before .if1 .left) (s .pre .1 .0 .0)
+    (s .pre .1 .1 .2) (a .batch .now) (small s) (asked .accepts .result) (asked .accepts .ensures) (shelf .before .before .if1 .left) (s .pre .1 .0 .0)
     (shelf .shelf-at .ensures) (shelf .before .flags .ensures) (c .before .before .union .ensures)
 
 pub unite-root-spec : {M : Type 1} → statement M

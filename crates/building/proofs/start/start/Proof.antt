@@ -1,10 +1,9 @@
 -- `start::start` refuses work that is too short, or lists the rules and comes to the first node.
-use mathlib.Core.Path.{refl, subst}
+use mathlib.Core.Path.{refl}
 use native.Mathlib.Omega.{arith}
 use borrow.Author.Needs.{needs}
-use Rattle.stream.specs.RuleLists.{RuleLists}
 use Rattle.building.specs.Listed.{Listed}
-use Rattle.building.proofs.Beginning.{ReadFacts, asked-fits, asked-is, comes-first, first-started, lists-room, read-facts, rules-listed, short-work, small}
+use Rattle.building.proofs.Beginning.{ReadFacts, asked-fits, asked-is, comes-first, first-started, read-facts, rules-listed, short-work, small}
 use Rattle.building.proofs.start.start.Statement.{statement}
 use Rattle.building.proofs.start.start.Tie as tie
 
@@ -17,7 +16,7 @@ listed : (c : tie.After-list-rules) → let a = c .before .before .before .befor
 listed c =
     let start = c .before .before .before .before .before .before .before .before .before in
     let a = start .args in
-    rules-listed (a .input .now) (a .tree) (a .query) (facts start) (c .list-rules .ensures) (c .list-rules .kept .1 .1 .0) (start .pre .1 .1)
+    rules-listed (a .input .now) (a .tree) (a .query) (facts start) (a .lists .now) (c .list-rules .ensures) (start .pre .1 .1)
 
 add-asked : tie.Need-add-asked
 add-asked c =
@@ -57,10 +56,7 @@ cast-t14 : tie.Need-cast-t14
 cast-t14 c = search needs
 
 list-rules-requires : tie.Need-list-rules-requires
-list-rules-requires c κs =
-    let start = c .before .before .before .before .before .before .before .before in
-    let a = start .args in
-    lists-room (a .input .now) (a .tree) (a .query) (facts start) (start .pre .1 .1)
+list-rules-requires c κs = search needs
 
 start-node-requires : tie.Need-start-node-requires
 start-node-requires c κs =

@@ -1,25 +1,27 @@
 -- `lists::accepts` meets its contract.
-use mathlib.Core.Path.{_∙_}
+use mathlib.Core.Path.{_∙_, ap}
+use native.Mathlib.Omega.{arith}
 use borrow.Author.Needs.{needs}
-use lib.ListN.{getD}
-use Rattle.stream.specs.RuleLists.{acceptingCell}
+use Rattle.paper.specs.Questions.{hasPlace}
 use Rattle.stream.proofs.AcceptingBits.{shifted}
 use Rattle.stream.proofs.lists.accepts.Statement.{statement}
 use Rattle.stream.proofs.lists.accepts.Tie as tie
 
-shared-slice-read-result : tie.Need-shared-slice-read-result
-shared-slice-read-result c = search needs
+returns : tie.Need-returns
+returns c = λ input from k low. absurd (omega (arith, low, c .if1 .taken))
 
-cast-result : tie.Need-cast-result
-cast-result c = search needs
+number-in-requires : tie.Need-number-in-requires
+number-in-requires c κs = search needs
 
 shr-result : tie.Need-shr-result
 shr-result c = search needs
 
-returns : tie.Need-returns
-returns c =
-    let a = c .before in
-    λ input from k. shifted (getD (a .args .lists .now) acceptingCell 0) (a .args .state) ∙ k .accepting (a .args .state) (a .pre .0)
+returns-2 : tie.Need-returns-2
+returns-2 c =
+    let a = c .before .before .before in
+    λ input from k low.
+    shifted (c .number-in .result) (a .args .state) ∙ ap (λ n. hasPlace n (a .args .state)) (c .number-in .ensures)
+    ∙ k .accepting (a .args .state) low
 
 pub accepts-spec : {M : Type 1} → statement M
-accepts-spec = tie.close (tie.spec shared-slice-read-result cast-result shr-result returns)
+accepts-spec = tie.close (tie.spec returns number-in-requires shr-result returns-2)
