@@ -60,7 +60,7 @@ pub(crate) fn leaf_rules(
             flag,
             to,
         );
-        rule = rule_after(lists, t.rules, rule);
+        rule = rule_after(lists, rule - t.rules);
     }
     // Once a turn, and not once a rule: until it is stored the batch may go past the limit.
     count_records(t, count, rule)
@@ -104,7 +104,7 @@ pub(crate) fn branch_rules(
     while rule < input.len() && count <= WAITING_RECORDS {
         let here = branch_at(t, input, rule);
         count = branch_rule(&mut *batch, &mut *work, count, here);
-        rule = rule_after(lists, t.rules, rule);
+        rule = rule_after(lists, rule - t.rules);
     }
     count_records(t, count, rule)
 }

@@ -79,10 +79,6 @@ rule-kind kind label r e = ⊎-elim (λ w. inl (eqb-true kind 17 w)) (λ w. inr 
     branch : eqb kind 17 ≡ false → eqb kind 18 ≡ true
     branch w = rw w at is-kind
 
--- before the first rule no rule is told
-pub tells-none : (lists : List ℕ) (from rule : ℕ) → rule < from → TellsNext lists from rule 0
-tells-none lists from rule before input kind label passed k low h e is = absurd (omega (arith, led-behind passed input from rule h e))
-
 pub tells-next : (lists : List ℕ) (from rule : ℕ) → TellsNext lists from rule (getD lists (cellOf from rule) 0)
 tells-next lists from rule input kind label passed k low h e is =
     of-symbol kind label kind-is low (λ a l. NextRule input (after input rule) a l (getD lists (cellOf from rule) 0))

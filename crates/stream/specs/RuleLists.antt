@@ -57,8 +57,11 @@ acceptingCell = symbols
 abbrev pub firstCell : ℕ
 firstCell = symbols + 1
 
+abbrev pub cellBehind : ℕ → ℕ
+cellBehind bytes = firstCell + bytes / 4
+
 abbrev pub cellOf : ℕ → ℕ → ℕ
-cellOf from at = firstCell + (at - from) / 4
+cellOf from at = cellBehind (at - from)
 
 -- lists of this length have a cell for each rule from `from` on
 abbrev pub Room : List ℕ → ℕ → ℕ → Type 0

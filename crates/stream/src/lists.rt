@@ -4,7 +4,7 @@
 ghost use mathlib.Core.Path.{_≡_};
 ghost use Prim.Native.Nat.{ℕ, _+_, _*_, _-_, _≤_, _<_};
 ghost use lib.ListN.{length, getD, set};
-ghost use Rattle.stream.specs.RuleLists.{Lists, SymbolOf, symbols, symbol, SymbolAt, cellOf, Room, RuleLists, AddsState, TellsFirst, TellsNext, TellsAccepting};
+ghost use Rattle.stream.specs.RuleLists.{Lists, SymbolOf, cellBehind, symbols, symbol, SymbolAt, Room, RuleLists, AddsState, TellsFirst, TellsNext, TellsAccepting};
 use crate::lengths::body_length;
 use crate::record::byte_at;
 use paper::kinds::ACCEPTING_STATE;
@@ -56,13 +56,12 @@ fn symbol_of(kind: u8, label: u8) -> usize
     }
 }
 
-// The cell of the rule at a position. There is one for as many bytes as the shortest rule has, so no
-// two rules share one, and no table of rules is needed.
-fn cell_of(from: usize, at: usize) -> usize
-    requires { ⌜ from ≤ at ⌝ }
-    ensures { λ r. ⌜ r ≡ cellOf from at ⌝ }
+// The cell of the rule that stands so many bytes behind the first one. There is one for as many bytes as
+// the shortest rule has, so no two rules share one, and no table of rules is needed.
+fn cell_of(behind: usize) -> usize
+    ensures { λ r. ⌜ r ≡ cellBehind behind ⌝ }
 {
-    FIRST_CELL + (at - from) / SHORTEST_RULE
+    FIRST_CELL + behind / SHORTEST_RULE
 }
 
 // The symbol of the rule at a position; `SYMBOLS` where none stands, or one with a label that no node
@@ -135,7 +134,7 @@ fn link_rules(input: &[u8], from: usize, lists: &mut [u16])
     while at < input.len() {
         let symbol = symbol_at(input, at);
         if symbol < SYMBOLS {
-            let cell = cell_of(from, at);
+            let cell = cell_of(at - from);
             add_rule(&mut *lists, &mut last, symbol, cell, at as u16);
         }
         accepting = with_state(input, at, accepting);
@@ -193,14 +192,11 @@ pub fn first_rule(lists: &[u16], kind: u8, label: u8) -> usize
     number_in(lists, symbol_of(kind, label))
 }
 
-// The rule behind one, of its kind and label. Before the first rule there is none to stand behind.
-pub fn rule_after(lists: &[u16], from: usize, rule: usize) -> usize
-    ensures { λ r. ⌜ TellsNext (now (lists .entry)) from rule r ⌝ }
+// The rule behind the one that stands so many bytes from the first record on, of its kind and label.
+pub fn rule_after(lists: &[u16], behind: usize) -> usize
+    ensures { λ r. ⌜ ((from : ℕ) → TellsNext (now (lists .entry)) from (from + behind) r) ⌝ }
 {
-    if rule < from {
-        return 0;
-    }
-    number_in(lists, cell_of(from, rule))
+    number_in(lists, cell_of(behind))
 }
 
 // Whether a state is accepting. No other than the first 16 ever is.

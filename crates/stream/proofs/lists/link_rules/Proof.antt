@@ -56,8 +56,11 @@ loop-holds c =
 symbol-at-requires : tie.Need-symbol-at-requires Inv-loop μ-loop
 symbol-at-requires c κs = search needs
 
+sub-cell-of : tie.Need-sub-cell-of Inv-loop μ-loop
+sub-cell-of c = let l = c .before .before .before in going-behind _ _ _ _ _ _ (l .loop .inv .0)
+
 cell-of-requires : tie.Need-cell-of-requires Inv-loop μ-loop
-cell-of-requires c κs = let l = c .before .before .before in going-behind _ _ _ _ _ _ (l .loop .inv .0)
+cell-of-requires c κs = search needs
 
 slice-aggregate-add-rule : tie.Need-slice-aggregate-add-rule Inv-loop μ-loop
 slice-aggregate-add-rule c = search needs
@@ -145,6 +148,7 @@ link-rules-spec =
     start-lists-requires
     loop-holds
     symbol-at-requires
+    sub-cell-of
     cell-of-requires
     slice-aggregate-add-rule
     cast-add-rule
