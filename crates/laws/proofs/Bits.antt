@@ -2,12 +2,13 @@
 -- First the lowest bit and the others, then places, then flags without a place.
 use mathlib.Core.Bool.{_||_, false, true}
 use mathlib.Core.Logic.{_⊎_, inl, inr, ⊎-elim}
-use mathlib.Core.Path.{_∙_, _≡_, refl}
+use mathlib.Core.Path.{_∙_, _≡_, ap, refl, sym}
 use Prim.Native.Nat.{_%_, _*_, _+_, _/_, _<_, _^_, _≤_, suc, zero, ℕ}
 use native.Mathlib.Omega.{arith}
 use borrow.Author.Tests.{eq-eqb, eqb-false, eqb-true, ne-eqb}
 use lib.Bits.{and-step, bitAnd}
 use lib.Dec.{eqb}
+use lib.Pow.{shr-shr}
 use Rattle.paper.specs.Questions.{hasPlace, without}
 use Rattle.laws.proofs.Lists.{which}
 use Rattle.laws.proofs.Rows.{and-digit}
@@ -30,6 +31,13 @@ module _ (a b : ℕ) (apart : bitAnd a b ≡ 0) where
   half-sum = omega (arith, lows)
 
 -- ---- places
+-- one is found by a shift
+pub shifted : (b i : ℕ) → eqb (b / 2 ^ i % 2) 1 ≡ hasPlace b i
+shifted b zero = ap (λ (z : ℕ). eqb (z % 2) 1) (let z : b / 2 ^ 0 ≡ b = omega arith in z)
+shifted b (suc i) =
+    let step : 1 + i ≡ suc i = omega arith in
+    ap (λ (z : ℕ). eqb (z % 2) 1) (ap (λ (z : ℕ). b / 2 ^ z) (sym step) ∙ sym (shr-shr b 1 i)) ∙ shifted (b / 2) i
+
 -- the sum of two flags that share no bit has the places of both
 pub bit-sum : (i a b : ℕ) → bitAnd a b ≡ 0 → hasPlace (a + b) i ≡ hasPlace a i || hasPlace b i
 bit-sum zero a b apart = ⊎-elim even odd (bit-of a)

@@ -1,20 +1,12 @@
--- A place of a flag: found by a shift; taken away as a bit; and none at an index where the flag has no digit.
+-- A place of a flag: taken away as a bit; and none at an index where the flag has no digit.
 use mathlib.Core.Bool.{false}
-use mathlib.Core.Path.{_∙_, _≡_, ap, sym}
+use mathlib.Core.Path.{_∙_, _≡_, ap}
 use Prim.Native.Nat.{_%_, _*_, _+_, _-_, _/_, _<_, _^_, _≤_, suc, zero, ℕ}
 use native.Mathlib.Omega.{arith}
 use borrow.Author.Tests.{ne-eqb}
 use lib.Bits.{and-step, and-zero-r, bitAnd}
-use lib.Dec.{eqb}
-use lib.Pow.{pow-mono, shl-exact, shr-shr}
+use lib.Pow.{pow-mono, shl-exact}
 use Rattle.paper.specs.Questions.{hasPlace, without}
-
--- ---- by a shift
-pub shifted : (b i : ℕ) → eqb (b / 2 ^ i % 2) 1 ≡ hasPlace b i
-shifted b zero = ap (λ (z : ℕ). eqb (z % 2) 1) (let z : b / 2 ^ 0 ≡ b = omega arith in z)
-shifted b (suc i) =
-    let step : 1 + i ≡ suc i = omega arith in
-    ap (λ (z : ℕ). eqb (z % 2) 1) (ap (λ (z : ℕ). b / 2 ^ z) (sym step) ∙ sym (shr-shr b 1 i)) ∙ shifted (b / 2) i
 
 -- ---- taken away
 -- the lowest bit

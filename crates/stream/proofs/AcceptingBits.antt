@@ -1,4 +1,4 @@
--- The accepting states as bits of a number. First a bit found by a shift, and a bit put in, then the states of the records passed, one
+-- The accepting states as bits of a number. First a bit put in, then the states of the records passed, one
 -- record more, and all of them.
 use mathlib.Core.Bool.{Bool, _||_, cond, false, or-assoc, or-false, or-true, true}
 use mathlib.Core.List.{List, [], _∷_}
@@ -9,7 +9,7 @@ use borrow.Author.Tests.{eq-eqb, eqb-true, ne-eqb}
 use lib.Bits.{bitOr, or-step, or-zero-r}
 use lib.Dec.{eqb}
 use lib.ListN.{drop, getD, length}
-use lib.Pow.{shl-exact, shr-shr}
+use lib.Pow.{shl-exact}
 use Rattle.paper.specs.Lists.{has}
 use Rattle.paper.specs.Query.{acceptingOf}
 use Rattle.paper.specs.Questions.{hasPlace}
@@ -21,13 +21,6 @@ use Rattle.stream.specs.RuleLists.{AddsState}
 use Rattle.stream.proofs.Positions.{number-byte, records-here, records-none}
 
 -- ---- bits
--- a bit is found by a shift
-pub shifted : (b i : ℕ) → eqb (b / 2 ^ i % 2) 1 ≡ hasPlace b i
-shifted b zero = ap (λ (z : ℕ). eqb (z % 2) 1) (let z : b / 2 ^ 0 ≡ b = omega arith in z)
-shifted b (suc i) =
-    let step : 1 + i ≡ suc i = omega arith in
-    ap (λ (z : ℕ). eqb (z % 2) 1) (ap (λ (z : ℕ). b / 2 ^ z) (sym step) ∙ sym (shr-shr b 1 i)) ∙ shifted (b / 2) i
-
 -- a bit put in is there, and every other one stays as it is
 bit-put : (j i a : ℕ) → hasPlace (bitOr a (2 ^ j)) i ≡ hasPlace a i || eqb j i
 bit-put zero zero a = eq-eqb (bitOr a 1 % 2) 1 (omega (arith, or-step a 1)) ∙ sym (or-true (eqb (a % 2) 1))

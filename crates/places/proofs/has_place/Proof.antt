@@ -2,7 +2,8 @@
 use mathlib.Core.Path.{_∙_, sym}
 use native.Mathlib.Omega.{arith}
 use borrow.Author.Tests.{le-ltb}
-use Rattle.places.proofs.Flags.{beyond, shifted}
+use Rattle.laws.proofs.Bits.{shifted}
+use Rattle.places.proofs.Flags.{beyond}
 use borrow.Author.Needs.{needs}
 use Rattle.places.proofs.has_place.Statement.{statement}
 use Rattle.places.proofs.has_place.Tie as tie

@@ -3,7 +3,7 @@ use mathlib.Core.Path.{_∙_, ap}
 use native.Mathlib.Omega.{arith}
 use borrow.Author.Needs.{needs}
 use Rattle.paper.specs.Questions.{hasPlace}
-use Rattle.stream.proofs.AcceptingBits.{shifted}
+use Rattle.laws.proofs.Bits.{shifted}
 use Rattle.stream.proofs.lists.accepts.Statement.{statement}
 use Rattle.stream.proofs.lists.accepts.Tie as tie
 
