@@ -18,7 +18,7 @@ use builds::{Buffers, BUILD_TURNS};
 use random::Random;
 use tarnsatchel::MOST_RECORDS;
 use times::{print_line, print_titles};
-use workloads::{any_shape, any_states, comb, every_left_side, places_seen, query_q, query_q_behind, rule_said_twice, RULES_OF_Q};
+use workloads::{any_shape, any_states, comb, every_left_side, places_seen, query_q, query_q_behind, rule_said_twice, Own, RULES_OF_Q};
 
 /// How often each call but a build is timed.
 const TURNS: usize = 301;
@@ -40,7 +40,8 @@ fn main() {
     for (title, all) in [
         ("as nodes and arity grow", growth()),
         ("many rules: of many labels, of one", many_rules()),
-        ("random shapes, most slots filled", random_shapes()),
+        ("random shapes, most slots filled", random_shapes(Own::Few, &[(2, 4), (2, 8), (3, 3), (3, 4)])),
+        ("the same, a rule for every left side", random_shapes(Own::All, &[(2, 4), (2, 8), (3, 2), (3, 3)])),
     ] {
         print_titles(title, &["ordinary", "unchecked"]);
         for (name, input) in all {
@@ -92,14 +93,13 @@ fn many_rules() -> Vec<Named> {
     all.chain([63, 1_001].map(of_one)).collect()
 }
 
-/// Arity and states such that the records fit. Of the branches' slots 71, 65, 58, 93 and 86 in a hundred are filled.
-fn random_shapes() -> Vec<Named> {
+/// Arity and states such that the records fit.
+fn random_shapes(own: Own, sizes: &[(usize, usize)]) -> Vec<Named> {
     const LEAVES: usize = 151;
     let mut random = Random(2026);
-    [(2, 4), (2, 6), (2, 8), (3, 2), (3, 3)]
-        .map(|(arity, states)| {
-            let (tree, query) = (any_shape(&mut random, LEAVES), any_states(&mut random, arity, states));
-            (format!("{} nodes, arity {arity}, {states} states", tree.len() / 2), [tree, query].concat())
-        })
-        .to_vec()
+    let all = sizes.iter().map(|&(arity, states)| {
+        let (tree, query) = (any_shape(&mut random, LEAVES), any_states(&mut random, arity, states, own));
+        (format!("{} nodes, arity {arity}, {states} states", tree.len() / 2), [tree, query].concat())
+    });
+    all.collect()
 }

@@ -110,15 +110,26 @@ pub fn any_shape(random: &mut Random, leaves: usize) -> Vec<u8> {
     tree
 }
 
-/// Every left side has a rule, so every row has a run. Of one label and flag no two rules with the same left state name the same state,
-/// nor two with the same right state: runs that differ below a node differ above it too, and fill many states.
-pub fn any_states(random: &mut Random, arity: usize, states: usize) -> Vec<u8> {
+/// Which flags of their own the rules of a branch have.
+#[derive(Clone, Copy)]
+pub enum Own {
+    /// None for every pair of states, and each other flag for one pair: most rules of a query pass a state on.
+    Few,
+    /// Every one for every pair: every left side has a rule, so every row has a run.
+    All,
+}
+
+/// Of one label and flag no two rules with the same left state name the same state, nor two with the same right state: runs that differ
+/// below a node differ above it too, and fill many states.
+pub fn any_states(random: &mut Random, arity: usize, states: usize, own: Own) -> Vec<u8> {
     let mut query = vec![HEAD, arity as u8, states as u8];
     for (label, flag) in (0..RANDOM_LABELS as u8).flat_map(|label| (0..1 << arity).map(move |flag| (label, flag))) {
         query.extend([LEAF_RULE, label, flag, random.below(states) as u8]);
-        let named = any_order(random, states);
+        let (named, pair) = (any_order(random, states), (random.below(states), random.below(states)));
         for (left, right) in (0..states).flat_map(|left| (0..states).map(move |right| (left, right))) {
-            query.extend([BRANCH_RULE, label, flag, left as u8, right as u8, named[(left + right) % states]]);
+            if flag == 0 || matches!(own, Own::All) || (left, right) == pair {
+                query.extend([BRANCH_RULE, label, flag, left as u8, right as u8, named[(left + right) % states]]);
+            }
         }
     }
     query.extend((0..states as u8 / 2).flat_map(|state| [ACCEPTING, state]));

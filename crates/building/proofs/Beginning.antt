@@ -168,7 +168,7 @@ module _ (input : List ℕ) (tree : TreeFacts) (query : QueryFacts) (f : ReadFac
   rules-listed lists {lists′} told long =
       let at : ℕ = 2 * nodesIn input in
       let few = query-listable input at (queryFacts input at) (sym (f .query-reply)) (omega (arith, tree-read (treeRecords (recordsOf input)) passes .2)) in
-      subst (λ n. RuleLists input n lists′) (f .rules) (told (subst (Listable input) (sym (f .rules)) few) long)
+      subst (λ n. RuleLists input n lists′) (f .rules) (told .listed (subst (Listable input) (sym (f .rules)) few) long)
 
   -- too short
   pub short-work : (work : List ℕ) (tableLength : ℕ) {n : ℕ} → n ≡ width (query .arity) (query .states) → length work < (1 + tree .most) * n
@@ -198,7 +198,8 @@ module _ (input : List ℕ) (tree : TreeFacts) (query : QueryFacts) (f : ReadFac
   module _ (t : State) (work : List ℕ) (entries : ℕ) (limit : t .limit ≡ min entries mostRecords) where
     -- a state with the numbers that were read comes to it
     pub comes-first : t .going ≡ true → t .over ≡ false → t .from ≡ 0 → t .count ≡ 0 → t .nodes ≡ tree .nodes → t .rules ≡ query .rules
-        → t .arity ≡ query .arity → t .states ≡ query .states → t .asked ≡ workFor input → t .asked ≤ length work → t .node ≡ 0 → t .at ≡ 0 → t .top ≡ 0 → Coming input t work []
+        → t .arity ≡ query .arity → t .states ≡ query .states → t .asked ≡ workFor input → t .asked ≤ length work → t .node ≡ 0 → t .at ≡ 0
+        → t .top ≡ 0 → Coming input t work []
     comes-first going over from count nodes rules arity states asked room node at top =
         let (n, none, empty-stack) = first-node (t .node) (t .at) (t .top) node at top (treeRecords (recordsOf input)) refl in
         record {

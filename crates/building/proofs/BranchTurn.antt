@@ -1,7 +1,7 @@
 -- One rule of a branch: where its shelves stand, that there is room for it, and where the building then stands.
 use mathlib.Core.List.{List, _++_}
 use mathlib.Core.Logic.{inr, ⊎-elim}
-use mathlib.Core.Path.{_∙_, _≡_, ap, refl, subst, subst₃, sym}
+use mathlib.Core.Path.{_∙_, _≡_, ap, refl, subst, sym}
 use Prim.Native.Nat.{_*_, _+_, _-_, _<_, _^_, _≤_, suc, ℕ}
 use native.Mathlib.Omega.{arith}
 use lib.ListN.{drop, getD, length}
@@ -15,14 +15,14 @@ use Rattle.building.specs.Batch.{Record, Set, recordsIn}
 use Rattle.building.specs.Bounds.{batchNumbers}
 use Rattle.building.specs.Branches.{BranchReady, branchOf}
 use Rattle.building.specs.Frames.{FrameIs, width}
-use Rattle.building.specs.Kinds.{branchRuleKind, leafKind, ruleAbove}
+use Rattle.building.specs.Kinds.{leafKind, ruleAbove}
 use Rattle.building.specs.Rules.{Branch, Branches, Room, Stands}
 use Rattle.building.specs.Standing.{AtRule, Standing, State, noSlots}
 use Rattle.building.proofs.Frames.{flags-at-most, frame-down}
 use Rattle.building.proofs.Limits.{more-records}
 use Rattle.building.proofs.NodeRules.{BranchRuleAt, branch-first, branch-rule-at, fewer-left, on-to-next}
 use Rattle.building.proofs.OwnShelf.{Onward, below-top, in-frame, low-shelf, own-shelf, shelf-rest, shelf-standing}
-use Rattle.building.proofs.Present.{NodeReady, kind-here, label-here, node-ready, tree-kind-here, two-frames}
+use Rattle.building.proofs.Present.{NodeReady, kind-here, node-ready, tree-kind-here, two-frames}
 
 module _ (input : List ℕ) (t : State) (work : List ℕ) (made : List Record) (s : Standing input t work made) (h : t .rule < length input)
     (branch : getD input (t .at) 0 ≡ leafKind → ⊥) where

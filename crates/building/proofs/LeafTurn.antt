@@ -1,7 +1,7 @@
 -- One rule of a leaf: where its single goes, and where the building then stands.
 use mathlib.Core.List.{List, _++_}
 use mathlib.Core.Logic.{inl}
-use mathlib.Core.Path.{_∙_, _≡_, ap₂, subst, subst₃, sym}
+use mathlib.Core.Path.{_∙_, _≡_, ap₂, subst, sym}
 use Prim.Native.Nat.{_+_, _<_, _^_, _≤_, ℕ}
 use native.Mathlib.Omega.{arith}
 use borrow.Author.Tests.{ne-eqb}
@@ -14,7 +14,7 @@ use Rattle.stream.specs.Positions.{NextRule, after, recordAt}
 use Rattle.building.specs.Batch.{Record, Set, recordsIn}
 use Rattle.building.specs.Bounds.{mostFlags, mostStates}
 use Rattle.building.specs.Branches.{shelfFrom}
-use Rattle.building.specs.Kinds.{leafKind, leafRuleKind, ruleAbove}
+use Rattle.building.specs.Kinds.{leafKind, ruleAbove}
 use Rattle.building.specs.Rules.{Leaves, OneShelf}
 use Rattle.building.specs.Slots.{shelfAt}
 use Rattle.building.specs.Standing.{AtRule, Standing, State}
@@ -22,7 +22,7 @@ use Rattle.building.proofs.Frames.{flags-at-most, slot-below}
 use Rattle.building.proofs.Limits.{more-records}
 use Rattle.building.proofs.NodeRules.{LeafRuleAt, fewer-left, leaf-first, leaf-rule-at, on-to-next}
 use Rattle.building.proofs.OwnShelf.{Onward, low-shelf, own-shelf, shelf-rest, shelf-standing}
-use Rattle.building.proofs.Present.{NodeReady, kind-here, label-here, node-ready}
+use Rattle.building.proofs.Present.{NodeReady, kind-here, node-ready}
 use Rattle.building.proofs.Running.{shelf-put, slot-shelf}
 
 -- where the shelf of a leaf's rule stands

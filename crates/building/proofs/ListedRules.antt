@@ -32,7 +32,8 @@ module _ (input : List ℕ) (t : State) (work : List ℕ) (made : List Record) (
   pub next-listed : {next : ℕ} → ((from : ℕ) → TellsNext lists from (from + (t .rule - t .rules)) next)
       → NextRule input (after input (t .rule)) (s .node .here .kind + ruleAbove) (number (s .node .here) 0) next
   next-listed {next} told =
-      subst (λ rule. TellsNext lists (t .rules) rule next) there (told (t .rules)) input (s .node .here .kind + ruleAbove) (number (s .node .here) 0) (s .rule .passed)
+      subst (λ rule. TellsNext lists (t .rules) rule next) there (told (t .rules)) input (s .node .here .kind + ruleAbove)
+      (number (s .node .here) 0) (s .rule .passed)
       (subst (λ n. RuleLists input n lists) (sym (s .constants .rules)) listed)
       (omega (arith, label-here input t (s .constants) (s .node), low-label input t (s .constants) (s .node))) here passed its-rule
     where

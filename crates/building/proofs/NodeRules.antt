@@ -42,7 +42,6 @@ no-rule kind label r k no-one (e, l) =
 pub record LeafRuleAt (input : List ℕ) (t : State) (label : ℕ) : Type 0 where
   pub kind : getD input (t .rule) 0 ≡ leafRuleKind
   pub inside : t .rule + 4 ≤ length input
-  pub behind : after input (t .rule) ≡ t .rule + 4
   pub flag-byte : number (recordAt input (t .rule)) 1 ≡ getD input (t .rule + 2) 0
   pub state-byte : number (recordAt input (t .rule)) 2 ≡ getD input (t .rule + 3) 0
   pub rule : LeafRuleFor label (recordAt input (t .rule))
@@ -53,7 +52,6 @@ pub record LeafRuleAt (input : List ℕ) (t : State) (label : ℕ) : Type 0 wher
 pub record BranchRuleAt (input : List ℕ) (t : State) (label : ℕ) : Type 0 where
   pub kind : getD input (t .rule) 0 ≡ branchRuleKind
   pub inside : t .rule + 6 ≤ length input
-  pub behind : after input (t .rule) ≡ t .rule + 6
   pub flag-byte : number (recordAt input (t .rule)) 1 ≡ getD input (t .rule + 2) 0
   pub left-byte : number (recordAt input (t .rule)) 2 ≡ getD input (t .rule + 3) 0
   pub right-byte : number (recordAt input (t .rule)) 3 ≡ getD input (t .rule + 4) 0
@@ -155,7 +153,6 @@ module _ (input : List ℕ) (t : State) (k : Constants input t) (here : StreamRe
   leaf-rule-at e = record {
     kind = kind;
     inside = omega (arith, rule-inside, length-is);
-    behind = omega (arith, length-is);
     flag-byte = flag-byte;
     state-byte = state-byte;
     rule = (kind, rule-here .1);
@@ -189,7 +186,6 @@ module _ (input : List ℕ) (t : State) (k : Constants input t) (here : StreamRe
   branch-rule-at e = record {
     kind = kind;
     inside = omega (arith, rule-inside, length-is);
-    behind = omega (arith, length-is);
     flag-byte = flag-byte;
     left-byte = left-byte;
     right-byte = right-byte;

@@ -9,7 +9,8 @@ use Rattle.building.specs.Bounds.{batchNumbers}
 use Rattle.building.specs.Listed.{Listed}
 use Rattle.building.specs.Standing.{State, Standing, Stopped}
 
--- no record is made yet, and the rules are listed; the batch has room for the records of two rules, and the table for as many as are to fit
+-- no record is made yet, and the rules are listed; the batch has room for those that wait and those of one rule, and the table for as many
+-- as are to fit
 pub record Ready (input lists : List ℕ) (table : List Record) (s : State) (work batch : List ℕ) : Type 0 where
   pub standing : Standing input s work []
   pub listed : Listed input lists

@@ -121,12 +121,12 @@ fn beside(
     k: usize,
     rule: Branch,
     b1: usize,
-    rights: u64,
+    marked: u64,
 ) -> usize
     requires { ⌜ Room rule k (now batch) (now work) ⌝ }
     requires { ⌜ (b1 < rule .size) × (bitAnd (rule .own) b1 ≡ 0) ⌝ }
     requires { ⌜ k + splitRecords * length (flagsAt (rule .own) (rule .size) b1) ≤ batchRecords ⌝ }
-    requires { ⌜ rights ≡ marksAt (now work) (rule .right) ⌝ }
+    requires { ⌜ marked ≡ marksAt (now work) (rule .right) ⌝ }
     ensures { λ r. ⌜ Runs (flagsAt (rule .own) (rule .size) b1) rule k
         (now (batch .entry)) (now (work .entry)) r (now (batch .exit)) (now (work .exit)) ⌝ }
 {
@@ -137,7 +137,7 @@ fn beside(
         return k;
     }
     let mut count = k;
-    let mut marks = rights;
+    let mut marks = marked;
     while marks != 0 {
         // The lowest mark that is left; the last line of the turn takes it away.
         let b2 = u64::trailing_zeros(marks) as usize;
@@ -164,8 +164,8 @@ pub(crate) fn branch_rule(batch: &mut [u16], work: &mut [u64], k: usize, rule: B
     let left = rule.left;
     let right = rule.right;
     // Many rules have nothing on one side: they are passed over here, by one look at each of the two shelves.
-    let rights = work[right] / SETS;
-    if rights == 0 {
+    let marked = work[right] / SETS;
+    if marked == 0 {
         return k;
     }
     let mut count = k;
@@ -173,7 +173,7 @@ pub(crate) fn branch_rule(batch: &mut [u16], work: &mut [u64], k: usize, rule: B
     while marks != 0 {
         let b1 = u64::trailing_zeros(marks) as usize;
         if (rule.own & b1) == 0 {
-            count = beside(&mut *batch, &mut *work, count, rule, b1, rights);
+            count = beside(&mut *batch, &mut *work, count, rule, b1, marked);
         }
         marks = marks & (marks - 1);
     }

@@ -83,7 +83,7 @@ fn start(
 }
 
 // The tree, then the query behind it: the first that is refused ends the build. What is kept of them is a
-// few numbers; the rules are read again, where they stand, at each node.
+// few numbers, and the lists, which tell where the rules stand.
 pub(crate) fn begin(input: &[u8], work: &mut [u64], lists: &mut [u16], entries: usize) -> Begun
     requires { ⌜ listNumbers ≤ length (now lists) ⌝ }
     ensures { λ r. ⌜ Begins (now (input .entry)) (now (work .entry)) entries r (now (work .exit)) (now (lists .exit)) ⌝ }

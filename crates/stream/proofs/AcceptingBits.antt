@@ -69,12 +69,12 @@ module _ (input : List ℕ) (at old : ℕ) where
         bit = shl-exact {a = 1} 1 (getD input (at + 1) 0) 16 (omega arith) (omega arith) ∙ omega arith
 
 -- ---- all records: a state is accepting from the start on if it has a bit, or is accepting from the position on
-pub record Accepted (input : List ℕ) (from at bits : ℕ) : Type 0 where
+pub record StatesSoFar (input : List ℕ) (from at bits : ℕ) : Type 0 where
   pub states : (q : ℕ) → q < 16
       → hasPlace bits q || has (acceptingOf (recordsOf (drop at input))) q ≡ has (acceptingOf (recordsOf (drop from input))) q
 
 -- no record passed
-pub accepted-none : (input : List ℕ) (from : ℕ) → Accepted input from from 0
+pub accepted-none : (input : List ℕ) (from : ℕ) → StatesSoFar input from from 0
 accepted-none input from = record { states = λ q h. rw (no-places q) refl }
 
 -- the states of a record, then those of the others
@@ -86,9 +86,9 @@ first-states r rs q = go (eqb (r .kind) 19)
     go true = ap (λ b. b || has (acceptingOf rs) q) (sym (or-false (eqb (number r 0) q)))
     go false = refl
 
-module _ (input : List ℕ) (from at bits : ℕ) (k : Accepted input from at bits) where
+module _ (input : List ℕ) (from at bits : ℕ) (k : StatesSoFar input from at bits) where
   -- one more
-  pub accepted-more : (to bits′ : ℕ) → at < length input → to ≡ after input at → AddsState input at bits bits′ → Accepted input from to bits′
+  pub accepted-more : (to bits′ : ℕ) → at < length input → to ≡ after input at → AddsState input at bits bits′ → StatesSoFar input from to bits′
   accepted-more to bits′ inside ends adds = record { states = after-it }
     where
       own : ℕ → Bool

@@ -45,17 +45,17 @@ module _ (input : List ℕ) (f : QueryFacts) (at : ℕ) where
   -- of a rule: numbers that are its label and its flag, and those of the query's flags and ends
   module _ (label flag flags ends : ℕ) (a : label ≡ getD input (at + 1) 0) (b : flag ≡ getD input (at + 2) 0) (x : flags ≡ flagsOf f)
       (y : ends ≡ endsOf f) where
-    symbol-bytes : (n : ℕ) → getD input at 0 ≡ n → 1 < bodyLength n
+    label-and-flag : (n : ℕ) → getD input at 0 ≡ n → 1 < bodyLength n
         → (label * flags + flag) * ends ≡ (number r 0 * flagsOf f + number r 1) * endsOf f
-    symbol-bytes n e h =
+    label-and-flag n e h =
         cc (number-byte input at n 0 (at + 1) e (omega arith) (omega arith), number-byte input at n 1 (at + 2) e (omega arith) (omega arith))
 
     pub leaf-bytes : getD input at 0 ≡ 17 → 16 + (label * flags + flag) * ends ≡ keyOf f r
-    leaf-bytes e = rw (ap (λ n. eqb n 17) e, ap (λ n. eqb n 19) e) (omega (arith, symbol-bytes 17 e (omega arith)))
+    leaf-bytes e = rw (ap (λ n. eqb n 17) e, ap (λ n. eqb n 19) e) (omega (arith, label-and-flag 17 e (omega arith)))
 
     pub branch-bytes : (left right : ℕ) → left ≡ getD input (at + 3) 0 → right ≡ getD input (at + 4) 0 → getD input at 0 ≡ 18
         → 16 + (label * flags + flag) * ends + 1 + left * f .states + right ≡ keyOf f r
-    branch-bytes left right p q e = rw (ap (λ n. eqb n 17) e, ap (λ n. eqb n 19) e) (omega (arith, symbol-bytes 18 e (omega arith), product, last))
+    branch-bytes left right p q e = rw (ap (λ n. eqb n 17) e, ap (λ n. eqb n 19) e) (omega (arith, label-and-flag 18 e (omega arith), product, last))
       where
         product : left * f .states ≡ number r 2 * f .states
         product = cc (number-byte input at 18 2 (at + 3) e (omega arith) (omega arith))

@@ -25,8 +25,8 @@ use Rattle.stream.proofs.Symbols.{cell-behind, one-symbol, place-from, 
 abbrev Seeks : List ℕ → ℕ → ℕ → ℕ → Type 0
 Seeks input start s next = NextRule input start (kindFor s) (labelFor s) next
 
-abbrev Passes : List ℕ → ℕ → ℕ → ℕ → Type 0
-Passes input start s next = Skipped input start (kindFor s) (labelFor s) next
+abbrev SkippedTo : List ℕ → ℕ → ℕ → ℕ → Type 0
+SkippedTo input start s next = Skipped input start (kindFor s) (labelFor s) next
 
 -- ---- cells: after n records, c is a cell of symbol s, and the rule that it tells is sought from `start` on
 pub data Cell (input : List ℕ) (from n : ℕ) : (c s start : ℕ) → Type 0 where
@@ -91,7 +91,7 @@ pub record Last (input : List ℕ) (from n : ℕ) (lists : List ℕ) (s c : ℕ)
   pub start : ℕ
   pub cell : Cell input from n c s start
   pub ends : getD lists c 0 ≡ length input
-  pub passed : Passes input start s (place input from n)
+  pub passed : SkippedTo input start s (place input from n)
 
 pub record Linked (input : List ℕ) (from n : ℕ) (lists last : List ℕ) : Type 0 where
   pub lasts : (s : ℕ) → s < symbols → Last input from n lists s (getD last s 0)

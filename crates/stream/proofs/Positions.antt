@@ -41,11 +41,6 @@ module _ (input : List ℕ) (at : ℕ) where
   pub number-byte : (k i j : ℕ) → getD input at 0 ≡ k → i < bodyLength k → at + 1 + i ≡ j → number (recordAt input at) i ≡ getD input j 0
   number-byte k i j kind h e = number-here i (omega (arith, ap bodyLength kind)) ∙ ap (λ n. getD input n 0) e
 
-  -- so are its kind and its numbers, one after the other
-  pub word-here : (i : ℕ) → i ≤ bodyLength (getD input at 0) → getD (recordAt input at .kind ∷ recordAt input at .body) i 0 ≡ getD input (at + i) 0
-  word-here zero h = ap (λ j. getD input j 0) (let z : at ≡ at + 0 = omega arith in z)
-  word-here (suc i) h = number-here i h ∙ ap (λ j. getD input j 0) (let z : at + 1 + i ≡ at + suc i = omega arith in z)
-
   -- it is whole where the input reaches to its end, and cut where not
   pub whole-here : after input at ≤ length input → whole (recordAt input at) ≡ true
   whole-here h =

@@ -37,9 +37,9 @@ words r = cond (isRuleKind (r .kind)) (side (ruleOf r)) (r .kind ∷ number r 0 
 
 -- what is said by a key
 abbrev sideFrom : QueryFacts → ℕ → ℕ → List ℕ
-sideFrom f symbol end =
-    cond (eqb end 0) (17 ∷ symbol / flagsOf f ∷ symbol % flagsOf f ∷ [])
-    (18 ∷ symbol / flagsOf f ∷ symbol % flagsOf f ∷ (end - 1) / f .states ∷ (end - 1) % f .states ∷ [])
+sideFrom f marked end =
+    cond (eqb end 0) (17 ∷ marked / flagsOf f ∷ marked % flagsOf f ∷ [])
+    (18 ∷ marked / flagsOf f ∷ marked % flagsOf f ∷ (end - 1) / f .states ∷ (end - 1) % f .states ∷ [])
 
 abbrev wordsFrom : QueryFacts → ℕ → List ℕ
 wordsFrom f k = cond (ltb k 16) (19 ∷ k ∷ []) (sideFrom f ((k - 16) / endsOf f) ((k - 16) % endsOf f))

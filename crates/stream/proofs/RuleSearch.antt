@@ -29,10 +29,6 @@ module _ (input : List ℕ) (at kind label : ℕ) (inside : at < length input) w
     this-kind : eqb (getD input at 0) kind ≡ true
     this-kind = eq-eqb (getD input at 0) kind same
 
-    -- nor if that is no rule's
-    pub no-rule-kind : (kind ≡ 17 → ⊥) → (kind ≡ 18 → ⊥) → false ≡ isRuleFor kind label (recordAt input at)
-    no-rule-kind a b = rw (this-kind, ne-eqb kind 17 a, ne-eqb kind 18 b) refl
-
     module _ (rule : RuleKind kind) where
       rule-kind : isRuleKind kind ≡ true
       rule-kind = ⊎-elim (λ e. rw e refl) (λ e. rw e refl) rule

@@ -108,12 +108,12 @@ few-records (suc n) (k ∷ bytes) = omega (arith, few-records n (drop (bodyLengt
 
 module _ (input : List ℕ) (from : ℕ) (lists : List ℕ) (k : RuleLists input from lists) (s : ℕ) (low : s < symbols) where
   -- the records passed up to a position, and the rule that is next from there on
-  pub record Comes (start rule : ℕ) : Type 0 where
+  pub record Reached (start rule : ℕ) : Type 0 where
     pub passed : List StreamRecord
     pub led : recordsOf (drop from input) ≡ passed ++ recordsOf (drop start input)
     pub next : NextRule input start (kindFor s) (labelFor s) rule
 
-  module _ (start rule : ℕ) (c : Comes start rule) where
+  module _ (start rule : ℕ) (c : Reached start rule) where
     -- the records up to that rule are passed over
     rules-from : rulesFor s (recordsOf (drop start input)) ≡ rulesFor s (recordsOf (drop rule input))
     rules-from = ap (rulesFor s) (c .next .records) ∙ rules-skipped s (c .next .skipped) (recordsOf (drop rule input)) (c .next .no-rule)
@@ -125,7 +125,7 @@ module _ (input : List ℕ) (from : ℕ) (lists : List ℕ) (k : RuleLists input
           ∙ sym (append-assoc (c .passed) (c .next .skipped) (recordsOf (drop rule input)))
 
       -- from behind the rule on, the one that its cell tells is next
-      comes-next : Comes (after input rule) (getD lists (cellOf from rule) 0)
+      comes-next : Reached (after input rule) (getD lists (cellOf from rule) 0)
       comes-next = record {
         passed = (c .passed ++ c .next .skipped) ++ (recordAt input rule ∷ []);
         led =
@@ -145,7 +145,7 @@ module _ (input : List ℕ) (from : ℕ) (lists : List ℕ) (k : RuleLists input
       rules-here = rules-from ∙ ap (rulesFor s) (records-here input rule h) ∙ rw is refl
 
   -- the chain from a rule on, which ends with the records
-  chain-right : (most start rule : ℕ) → Comes start rule → length (recordsOf (drop start input)) ≤ most
+  chain-right : (most start rule : ℕ) → Reached start rule → length (recordsOf (drop start input)) ≤ most
       → map (recordAt input) (chain most lists from (length input) rule) ≡ rulesFor s (recordsOf (drop start input))
   chain-right zero start rule c few = rules-none s (recordsOf (drop start input)) few
   chain-right (suc most) start rule c few =

@@ -13,6 +13,31 @@ use Rattle.stream.specs.Positions.{after, recordAt, recordsBetween}
 use Rattle.stream.specs.Reading.{QueryFacts}
 use Rattle.stream.specs.declared.query.QueryStep.the-variants as QueryStepIs
 
+-- ---- how large it gets
+-- bits of a word
+abbrev pub wordBits : ℕ
+wordBits = 64
+
+-- words of the three tables: the least that has a bit for each key of the query is taken
+abbrev pub smallTable : ℕ
+smallTable = 128
+
+abbrev pub middleTable : ℕ
+middleTable = 1040
+
+abbrev pub largeTable : ℕ
+largeTable = 4113
+
+-- at arity 4 with 16 states there are most flags, most ends and most keys
+abbrev pub mostFlags : ℕ
+mostFlags = 16
+
+abbrev pub mostEnds : ℕ
+mostEnds = 257
+
+abbrev pub mostKeys : ℕ
+mostKeys = 263184
+
 -- ---- keys
 -- the flags of the query
 abbrev pub flagsOf : QueryFacts → ℕ

@@ -1,5 +1,4 @@
 -- One record of the tree, or of the query, after those before it: the state that a loop carries, and what one step answers.
--- Last the search for a record that begins with given bytes.
 use mathlib.Core.Bool.{Bool, true, _&&_}
 use mathlib.Core.List.{List, [], _∷_}
 use mathlib.Core.Path.{_≡_}

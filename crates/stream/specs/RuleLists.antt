@@ -86,9 +86,10 @@ pub record RuleLists (input : List ℕ) (from : ℕ) (lists : List ℕ) : Type 0
       → NextRule input (after input (place input from i)) (kindFor s) (labelFor s) (getD lists (cellOf from (place input from i)) 0)
   pub accepting : (q : ℕ) → q < 16 → hasPlace (getD lists acceptingCell 0) q ≡ has (acceptingOf (recordsOf (drop from input))) q
 
--- lists that are long enough become these, where there is no more to list than a query has
-abbrev pub Lists : List ℕ → ℕ → List ℕ → List ℕ → Type 0
-Lists input from lists lists′ = Listable input from → listNumbers ≤ length lists → RuleLists input from lists′
+-- lists that are long enough become these, where there is no more to list than a query has; else they stay
+pub record Lists (input : List ℕ) (from : ℕ) (lists lists′ : List ℕ) : Type 0 where
+  pub listed : Listable input from → listNumbers ≤ length lists → RuleLists input from lists′
+  pub kept : (Listable input from → listNumbers ≤ length lists → ⊥) → lists′ ≡ lists
 
 -- one more record: these states, and its own if it is an accepting one's
 abbrev pub AddsState : List ℕ → ℕ → ℕ → ℕ → Type 0

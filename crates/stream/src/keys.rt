@@ -5,12 +5,12 @@ ghost use mathlib.Core.Path.{_≡_};
 ghost use Prim.Native.Nat.{_*_, _≤_, _<_};
 ghost use lib.ListN.{length, getD};
 ghost use Rattle.paper.specs.Query.{isRuleKind};
-ghost use Rattle.stream.specs.Keys.{flagsOf, endsOf, keysOf, keyOf, WholeAt, SaysKey};
+ghost use Rattle.stream.specs.Keys.{wordBits, mostFlags, mostEnds, mostKeys, flagsOf, endsOf, keysOf, keyOf, WholeAt, SaysKey};
 ghost use Rattle.stream.specs.OneRecord.{HeadInRange};
 ghost use Rattle.stream.specs.Positions.{recordAt};
 use crate::head::QueryFacts;
+use crate::lists::LABELS;
 use paper::kinds::LEAF_RULE;
-use paper::limits::HIGHEST_LABEL;
 use paper::limits::MOST_STATES;
 
 // Bits of a word of the table.
@@ -19,7 +19,7 @@ pub(crate) const WORD_BITS: usize = 64;
 // The flags of the query.
 fn flags(facts: QueryFacts) -> usize
     requires { ⌜ facts .arity ≤ 4 ⌝ }
-    ensures { λ r. ⌜ (r ≡ flagsOf facts) × (r ≤ 16) ⌝ }
+    ensures { λ r. ⌜ (r ≡ flagsOf facts) × (r ≤ mostFlags) ⌝ }
 {
     1usize << facts.arity
 }
@@ -27,7 +27,7 @@ fn flags(facts: QueryFacts) -> usize
 // What can stand behind a rule's label and flag: nothing in a leaf rule, two states in a branch rule.
 fn ends(facts: QueryFacts) -> usize
     requires { ⌜ facts .states ≤ 16 ⌝ }
-    ensures { λ r. ⌜ (r ≡ endsOf facts) × (r ≤ 257) ⌝ }
+    ensures { λ r. ⌜ (r ≡ endsOf facts) × (r ≤ mostEnds) ⌝ }
 {
     1 + facts.states * facts.states
 }
@@ -35,9 +35,9 @@ fn ends(facts: QueryFacts) -> usize
 // The keys of the query. Its own arity and states are the radices, so that a small query has few.
 pub(crate) fn number_of_keys(facts: QueryFacts) -> usize
     requires { ⌜ HeadInRange facts ⌝ }
-    ensures { λ r. ⌜ (r ≡ keysOf facts) × (r ≤ 263184) ⌝ }
+    ensures { λ r. ⌜ (r ≡ keysOf facts) × (r ≤ mostKeys) ⌝ }
 {
-    MOST_STATES + (HIGHEST_LABEL as usize + 1) * flags(facts) * ends(facts)
+    MOST_STATES + LABELS * flags(facts) * ends(facts)
 }
 
 // A byte as a number, in a function of its own so that the cast is proved once.
@@ -64,8 +64,8 @@ pub(crate) fn rule_key(input: &[u8], facts: QueryFacts, at: usize) -> usize
     requires { ⌜ isRuleKind (getD (now input) at 0) ≡ true ⌝ }
     ensures { λ r. ⌜ r ≡ keyOf facts (recordAt (now (input .entry)) at) ⌝ }
 {
-    let symbol = number_at(input, at + 1) * flags(facts) + number_at(input, at + 2);
-    let first = MOST_STATES + symbol * ends(facts);
+    let label_and_flag = number_at(input, at + 1) * flags(facts) + number_at(input, at + 2);
+    let first = MOST_STATES + label_and_flag * ends(facts);
     if input[at] == LEAF_RULE {
         return first;
     }
@@ -74,7 +74,7 @@ pub(crate) fn rule_key(input: &[u8], facts: QueryFacts, at: usize) -> usize
 
 // Whether the table has a key, which is then put in.
 pub(crate) fn say(said: &mut [u64], key: usize) -> bool
-    requires { ⌜ key < 64 * length (now said) ⌝ }
+    requires { ⌜ key < wordBits * length (now said) ⌝ }
     ensures { λ r. ⌜ SaysKey (now (said .entry)) key r (now (said .exit)) ⌝ }
 {
     let word = key / WORD_BITS;

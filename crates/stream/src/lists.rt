@@ -1,10 +1,11 @@
 // Lists of a query's rules by symbol, made once, so that a node finds the rules of its symbol without
 // passing over the others. First the symbol of a record, then the making of the lists, then their
 // readers. What the lists say stands in specs/RuleLists.antt.
+ghost use mathlib.Core.Bool.{false};
 ghost use mathlib.Core.Path.{_≡_};
-ghost use Prim.Native.Nat.{ℕ, _+_, _*_, _-_, _≤_, _<_};
+ghost use Prim.Native.Nat.{ℕ, _+_, _-_, _≤_, _<_};
 ghost use lib.ListN.{length, getD, set};
-ghost use Rattle.stream.specs.RuleLists.{Lists, SymbolOf, cellBehind, symbols, symbol, SymbolAt, Room, RuleLists, AddsState, TellsFirst, TellsNext, TellsAccepting};
+ghost use Rattle.stream.specs.RuleLists.{Lists, SymbolOf, cellBehind, symbols, SymbolAt, Room, RuleLists, AddsState, TellsFirst, TellsNext, TellsAccepting};
 use crate::lengths::body_length;
 use crate::record::byte_at;
 use paper::kinds::ACCEPTING_STATE;
@@ -15,7 +16,7 @@ use paper::limits::MOST_RULES;
 use paper::limits::MOST_STATES;
 
 // The labels, from 0 on.
-const LABELS: usize = HIGHEST_LABEL as usize + 1;
+pub(crate) const LABELS: usize = HIGHEST_LABEL as usize + 1;
 
 // A symbol for each label of the leaf rules, then for each of the branch rules.
 const SYMBOLS: usize = 2 * LABELS;
@@ -41,6 +42,9 @@ const MOST_BYTES: usize = MOST_RULES * LONGEST_RULE + MOST_STATES * STATE_RECORD
 // So long are lists that have room for the rules of any query that is read: 1,673 numbers.
 pub const LIST_NUMBERS: usize = FIRST_CELL + MOST_BYTES / SHORTEST_RULE;
 
+// The highest position that a number of the lists can tell: the end of an input is one.
+const HIGHEST_POSITION: usize = 65535;
+
 // The number of the symbol of a kind and a label; `SYMBOLS` where the kind is no rule's, or the label one
 // that no node has.
 fn symbol_of(kind: u8, label: u8) -> usize
@@ -56,7 +60,7 @@ fn symbol_of(kind: u8, label: u8) -> usize
     }
 }
 
-// The cell of the rule that stands so many bytes behind the first one. There is one for as many bytes as
+// The cell of a rule, by the bytes that stand before it behind the head. There is one for as many bytes as
 // the shortest rule has, so no two rules share one, and no table of rules is needed.
 fn cell_of(behind: usize) -> usize
     ensures { λ r. ⌜ r ≡ cellBehind behind ⌝ }
@@ -79,11 +83,11 @@ fn start_lists(lists: &mut [u16], last: &mut [u16], end: u16)
     ensures { λ _. ⌜ ((s : ℕ) → s < symbols → (getD (now (lists .exit)) s 0 ≡ end) × (getD (now (last .exit)) s 0 ≡ s)) ⌝ }
 {
     // Ends with the symbols.
-    let mut s = 0;
-    while s < SYMBOLS {
-        lists[s] = end;
-        last[s] = s as u16;
-        s += 1;
+    let mut symbol = 0;
+    while symbol < SYMBOLS {
+        lists[symbol] = end;
+        last[symbol] = symbol as u16;
+        symbol += 1;
     }
 }
 
@@ -154,11 +158,9 @@ fn bytes_behind(input: &[u8], from: usize) -> usize
     }
 }
 
-// The highest position that a number of the lists can tell: the end of an input is one.
-const HIGHEST_POSITION: usize = 65535;
-
 // The lists of a query, whose records stand from a position on. Any bytes are taken: where they are more
-// than a query that is read has, or the lists too short for that, nothing is listed.
+// than a query that is read has, or stand too far behind in the input for a number of the lists, or where
+// the lists are too short, nothing is listed and they stay as they are.
 pub fn list_rules(input: &[u8], from: usize, lists: &mut [u16])
     ensures { λ _. ⌜ Lists (now (input .entry)) from (now (lists .entry)) (now (lists .exit)) ⌝ }
 {
@@ -185,14 +187,15 @@ fn number_in(lists: &[u16], cell: usize) -> usize
     }
 }
 
-// The first rule of a kind and a label, and the end of the input where there is none.
+// The first rule of a kind and a label that rules and nodes have, and the end of the input where there is
+// none.
 pub fn first_rule(lists: &[u16], kind: u8, label: u8) -> usize
     ensures { λ r. ⌜ TellsFirst (now (lists .entry)) kind label r ⌝ }
 {
     number_in(lists, symbol_of(kind, label))
 }
 
-// The rule behind the one that stands so many bytes from the first record on, of its kind and label.
+// The rule behind one, of its kind and label; that one stands so many bytes behind the head.
 pub fn rule_after(lists: &[u16], behind: usize) -> usize
     ensures { λ r. ⌜ ((from : ℕ) → TellsNext (now (lists .entry)) from (from + behind) r) ⌝ }
 {
@@ -201,7 +204,7 @@ pub fn rule_after(lists: &[u16], behind: usize) -> usize
 
 // Whether a state is accepting. No other than the first 16 ever is.
 pub fn accepts(lists: &[u16], state: usize) -> bool
-    ensures { λ r. ⌜ TellsAccepting (now (lists .entry)) state r ⌝ }
+    ensures { λ r. ⌜ TellsAccepting (now (lists .entry)) state r × (16 ≤ state → r ≡ false) ⌝ }
 {
     if MOST_STATES <= state {
         return false;

@@ -8,7 +8,7 @@ ghost use Prim.Native.Nat.{_*_, _≤_};
 ghost use lib.ListN.{getD};
 ghost use Rattle.paper.specs.Query.{isRuleKind};
 ghost use Rattle.stream.specs.OneRecord.{BehindHead, AtLaterRecord, queryStep, saysQueryStep, laterReply};
-ghost use Rattle.stream.specs.Keys.{AtFittingRecord, TableOf, TableAfter, keysOf};
+ghost use Rattle.stream.specs.Keys.{AtFittingRecord, TableOf, TableAfter, keysOf, wordBits, smallTable, middleTable, largeTable};
 ghost use Rattle.stream.specs.Positions.{recordsBetween};
 ghost use Rattle.stream.specs.Reading.{saysQuery, queryReply};
 use crate::fits::record_fits;
@@ -124,16 +124,16 @@ fn each_record(input: &[u8], facts: QueryFacts, said: &mut [u64]) -> QueryRead
 
 // The words of three tables. A table is cleared whole where it is made, and that is not to be felt by
 // a small query: so it is the least of the three that has a bit for each key.
-// Arity 2 with 4 states, most queries: 4,368 keys.
+// For arity 2 with 4 states, which has 4,368 keys, and up to 8,192: 1 KiB is cleared in some 15 ns.
 const SMALL_TABLE: usize = 128;
-// Arity 2 with 16 states: 65,808 keys.
+// For arity 2 with 16 states, which has 65,808 keys, and a few more.
 const MIDDLE_TABLE: usize = 1040;
-// Arity 4 with 16 states, the largest: 263,184 keys.
+// For arity 4 with 16 states, the most: 263,184 keys.
 const LARGE_TABLE: usize = 4113;
 
 fn with_small_table(input: &[u8], facts: QueryFacts) -> QueryRead
     requires { ⌜ BehindHead (now input) facts ⌝ }
-    requires { ⌜ keysOf facts ≤ 64 * 128 ⌝ }
+    requires { ⌜ keysOf facts ≤ wordBits * smallTable ⌝ }
     ensures { λ r. ⌜ saysQuery r ≡ laterReply (now (input .entry)) facts ⌝ }
 {
     let mut said: [u64; SMALL_TABLE] = [0; SMALL_TABLE];
@@ -142,7 +142,7 @@ fn with_small_table(input: &[u8], facts: QueryFacts) -> QueryRead
 
 fn with_middle_table(input: &[u8], facts: QueryFacts) -> QueryRead
     requires { ⌜ BehindHead (now input) facts ⌝ }
-    requires { ⌜ keysOf facts ≤ 64 * 1040 ⌝ }
+    requires { ⌜ keysOf facts ≤ wordBits * middleTable ⌝ }
     ensures { λ r. ⌜ saysQuery r ≡ laterReply (now (input .entry)) facts ⌝ }
 {
     let mut said: [u64; MIDDLE_TABLE] = [0; MIDDLE_TABLE];
@@ -151,7 +151,7 @@ fn with_middle_table(input: &[u8], facts: QueryFacts) -> QueryRead
 
 fn with_large_table(input: &[u8], facts: QueryFacts) -> QueryRead
     requires { ⌜ BehindHead (now input) facts ⌝ }
-    requires { ⌜ keysOf facts ≤ 64 * 4113 ⌝ }
+    requires { ⌜ keysOf facts ≤ wordBits * largeTable ⌝ }
     ensures { λ r. ⌜ saysQuery r ≡ laterReply (now (input .entry)) facts ⌝ }
 {
     let mut said: [u64; LARGE_TABLE] = [0; LARGE_TABLE];

@@ -28,7 +28,7 @@ returns c =
     let start = c .before .before .before .before .before in
     let a = start .args in
     next-skipped (a .t) (a .lists .now) (a .work .now) (a .state) (a .made) (start .pre .1 .1 .0) (start .pre .1 .1 .1)
-    (start .pre .1 .1 .2) (a .batch .now) (small start) (c .before .accepts .result) (c .before .accepts .ensures) (c .if1 .taken)
+    (start .pre .1 .1 .2) (a .batch .now) (small start) (c .before .accepts .result) (c .before .accepts .ensures .0) (c .if1 .taken)
 
 flags-requires : tie.Need-flags-requires
 flags-requires c κs = omega (arith, ready (c .before .before .before .before .before))
@@ -85,7 +85,7 @@ returns-2 c =
     let s = start shelf in
     let a = s .args in
     next-united (a .t) (a .lists .now) (a .work .now) (a .state) (a .made) (s .pre .1 .1 .0) (s .pre .1 .1 .1)
-    (s .pre .1 .1 .2) (a .batch .now) (small s) (asked .accepts .result) (asked .accepts .ensures) (shelf .before .before .if1 .left) (s .pre .1 .0 .0)
+    (s .pre .1 .1 .2) (a .batch .now) (small s) (asked .accepts .result) (asked .accepts .ensures .0) (shelf .before .before .if1 .left) (s .pre .1 .0 .0)
     (shelf .shelf-at .ensures) (shelf .before .flags .ensures) (c .before .before .union .ensures)
 
 pub unite-root-spec : {M : Type 1} → statement M

@@ -15,10 +15,10 @@ use Rattle.building.proofs.rule.beside.Statement.{statement}
 use Rattle.building.proofs.rule.beside.Tie as tie
 
 abbrev Inv-loop : tie.InvT-loop
-Inv-loop batch₀ work₀ k rule b1 rights left right here count₀ marks₀ batch work count marks = RightLoop rule k batch₀ work₀ b1 marks count batch work
+Inv-loop batch₀ work₀ k rule b1 marked left right here count₀ marks₀ batch work count marks = RightLoop rule k batch₀ work₀ b1 marks count batch work
 
 abbrev μ-loop : tie.MeasureT-loop
-μ-loop batch₀ work₀ k rule b1 rights left right here count₀ marks₀ batch work count marks = marks
+μ-loop batch₀ work₀ k rule b1 marked left right here count₀ marks₀ batch work count marks = marks
 
 abbrev start : tie.In-loop Inv-loop μ-loop → tie.Start Inv-loop μ-loop
 start c = c .before .before .before .before .before .before

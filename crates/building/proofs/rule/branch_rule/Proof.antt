@@ -16,10 +16,10 @@ use Rattle.building.proofs.rule.branch_rule.Statement.{statement}
 use Rattle.building.proofs.rule.branch_rule.Tie as tie
 
 abbrev Inv-loop : tie.InvT-loop
-Inv-loop batch₀ work₀ k rule left right rights count₀ marks₀ batch work count marks = LeftLoop rule k batch₀ work₀ marks count batch work
+Inv-loop batch₀ work₀ k rule left right marked count₀ marks₀ batch work count marks = LeftLoop rule k batch₀ work₀ marks count batch work
 
 abbrev μ-loop : tie.MeasureT-loop
-μ-loop batch₀ work₀ k rule left right rights count₀ marks₀ batch work count marks = marks
+μ-loop batch₀ work₀ k rule left right marked count₀ marks₀ batch work count marks = marks
 
 abbrev start : tie.In-loop Inv-loop μ-loop → tie.Start Inv-loop μ-loop
 start c = c .before .before .before .before .before .before .before
@@ -42,14 +42,14 @@ Next c batch work count =
     (length batch ≡ length (a .batch .now)) × (length work ≡ length (a .work .now))
     × Runs (each (upTo (flag c + 1)) (flagsAt (a .rule .own) (a .rule .size))) (a .rule) (a .k) (a .batch .now) (a .work .now) count batch work
 
-mul-rights : tie.Need-mul-rights Inv-loop μ-loop
-mul-rights c =
+mul-marked : tie.Need-mul-marked Inv-loop μ-loop
+mul-marked c =
     let begin = c .before .before in
     let r = begin .pre .0 in
     omega (arith, r .right-before, r .within, begin .good)
 
-slice-read-rights : tie.Need-slice-read-rights Inv-loop μ-loop
-slice-read-rights c =
+slice-read-marked : tie.Need-slice-read-marked Inv-loop μ-loop
+slice-read-marked c =
     let r = c .before .before .before .pre .0 in
     omega (arith, r .right-before, r .within, some-flag _ (r .flags))
 
@@ -113,8 +113,8 @@ branch-rule-spec =
     (tie.spec
     Inv-loop
     μ-loop
-    mul-rights
-    slice-read-rights
+    mul-marked
+    slice-read-marked
     returns
     mul-marks
     slice-read-marks

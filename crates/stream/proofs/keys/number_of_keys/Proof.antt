@@ -11,12 +11,6 @@ few c =
     let symbols : 64 * c .before .flags .result ≤ 64 * 16 = omega (arith, c .before .flags .ensures .1) in
     mul-le-mul symbols (c .ends .ensures .1)
 
-cast-result : tie.Need-cast-result
-cast-result c = search needs
-
-add-result : tie.Need-add-result
-add-result c = search needs
-
 flags-requires : tie.Need-flags-requires
 flags-requires c κs = search needs
 
@@ -29,8 +23,8 @@ ends-requires c κs = search needs
 mul-result-2 : tie.Need-mul-result-2
 mul-result-2 c = omega (arith, few c)
 
-add-result-2 : tie.Need-add-result-2
-add-result-2 c = omega (arith, few c)
+add-result : tie.Need-add-result
+add-result c = omega (arith, few c)
 
 returns : tie.Need-returns
 returns c = (cc (c .before .flags .ensures .0, c .ends .ensures .0), omega (arith, few c))
@@ -39,11 +33,9 @@ pub number-of-keys-spec : {M : Type 1} → statement M
 number-of-keys-spec =
     tie.close
     (tie.spec
-    cast-result
-    add-result
     flags-requires
     mul-result
     ends-requires
     mul-result-2
-    add-result-2
+    add-result
     returns)

@@ -36,8 +36,8 @@ number-at-requires c κs = let a = c .before in omega (arith, rule-long _ _ _ (a
 flags-requires : tie.Need-flags-requires
 flags-requires c κs = search needs
 
-mul-symbol : tie.Need-mul-symbol
-mul-symbol c = omega (arith, label-low c)
+mul-label-and-flag : tie.Need-mul-label-and-flag
+mul-label-and-flag c = omega (arith, label-low c)
 
 add-number-at-2 : tie.Need-add-number-at-2
 add-number-at-2 c = search needs
@@ -45,8 +45,8 @@ add-number-at-2 c = search needs
 number-at-requires-2 : tie.Need-number-at-requires-2
 number-at-requires-2 c κs = let a = c .before .before .before in omega (arith, rule-long _ _ _ (a .pre .0) (a .pre .1))
 
-add-symbol : tie.Need-add-symbol
-add-symbol c = omega (arith, label-low (c .before), c .number-at2 .ensures .1)
+add-label-and-flag : tie.Need-add-label-and-flag
+add-label-and-flag c = omega (arith, label-low (c .before), c .number-at2 .ensures .1)
 
 ends-requires : tie.Need-ends-requires
 ends-requires c κs = search needs
@@ -111,10 +111,10 @@ rule-key-spec =
     add-number-at
     number-at-requires
     flags-requires
-    mul-symbol
+    mul-label-and-flag
     add-number-at-2
     number-at-requires-2
-    add-symbol
+    add-label-and-flag
     ends-requires
     mul-first
     add-first

@@ -7,7 +7,7 @@ use native.Mathlib.Omega.{arith}
 use borrow.Author.Needs.{needs}
 use lib.ListN.{getD, length, length-set}
 use Rattle.stream.specs.RuleLists.{Room, acceptingCell}
-use Rattle.stream.proofs.AcceptingBits.{Accepted, accepted-all, accepted-more, accepted-none}
+use Rattle.stream.proofs.AcceptingBits.{StatesSoFar, accepted-all, accepted-more, accepted-none}
 use Rattle.stream.proofs.LengthTable.{short}
 use Rattle.stream.proofs.Linking.{Going, cell-room, goes-on, goes-past, going-behind, going-ends, going-starts, last-before}
 use Rattle.stream.proofs.lists.link_rules.Statement.{statement}
@@ -15,7 +15,7 @@ use Rattle.stream.proofs.lists.link_rules.Tie as tie
 
 abbrev Inv-loop : tie.InvT-loop
 Inv-loop input from lists₀ last₀ end accepting₀ at₀ lists last accepting at =
-    Going input from (length lists₀) at lists last × Accepted input from at accepting
+    Going input from (length lists₀) at lists last × StatesSoFar input from at accepting
 
 abbrev μ-loop : tie.MeasureT-loop
 μ-loop input from lists₀ last₀ end accepting₀ at₀ lists last accepting at = length input - at

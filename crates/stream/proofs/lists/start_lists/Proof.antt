@@ -33,8 +33,8 @@ mul-last c = search needs
 slice-write-last : tie.Need-slice-write-last Inv-loop μ-loop
 slice-write-last c = search needs
 
-add-s : tie.Need-add-s Inv-loop μ-loop
-add-s c = search needs
+add-symbol : tie.Need-add-symbol Inv-loop μ-loop
+add-symbol c = search needs
 
 loop-less : tie.Need-loop-less Inv-loop μ-loop
 loop-less c = search needs
@@ -43,9 +43,9 @@ loop-again : tie.Need-loop-again Inv-loop μ-loop
 loop-again c =
     let k = c .before .loop in (
       omega arith,
-      length-set (k .lists) (k .s) _ ∙ k .inv .1,
-      length-set (k .last) (k .s) _ ∙ k .inv .2,
-      unlinked-more _ (k .s) (k .lists) (k .last) (k .inv .3) (omega (arith, c .before .before .pre)) (omega (arith, c .before .before .pre)),
+      length-set (k .lists) (k .symbol) _ ∙ k .inv .1,
+      length-set (k .last) (k .symbol) _ ∙ k .inv .2,
+      unlinked-more _ (k .symbol) (k .lists) (k .last) (k .inv .3) (omega (arith, c .before .before .pre)) (omega (arith, c .before .before .pre)),
     )
 
 same-length : tie.Need-same-length Inv-loop μ-loop
@@ -69,7 +69,7 @@ start-lists-spec =
     cast-last
     mul-last
     slice-write-last
-    add-s
+    add-symbol
     loop-less
     loop-again
     same-length
