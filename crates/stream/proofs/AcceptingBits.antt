@@ -1,12 +1,12 @@
 -- The accepting states as bits of a number. First a bit put in, then the states of the records passed, one
 -- record more, and all of them.
-use mathlib.Core.Bool.{Bool, _||_, cond, false, or-assoc, or-false, or-true, true}
+use mathlib.Core.Bool.{Bool, _||_, cond, false, or-assoc, or-false, true}
 use mathlib.Core.List.{List, [], _∷_}
 use mathlib.Core.Path.{_∙_, _≡_, ap, refl, sym}
-use Prim.Native.Nat.{_%_, _*_, _+_, _/_, _<_, _^_, _≤_, suc, zero, ℕ}
+use Prim.Native.Nat.{_%_, _*_, _+_, _<_, _^_, _≤_, ℕ}
 use native.Mathlib.Omega.{arith}
-use borrow.Author.Tests.{eq-eqb, eqb-true, ne-eqb}
-use lib.Bits.{bitOr, or-step, or-zero-r}
+use borrow.Author.Tests.{eq-eqb, ne-eqb}
+use lib.Bits.{bitOr}
 use lib.Dec.{eqb}
 use lib.ListN.{drop, getD, length}
 use lib.Pow.{shl-exact}
@@ -14,32 +14,16 @@ use Rattle.paper.specs.Lists.{has}
 use Rattle.paper.specs.Query.{acceptingOf}
 use Rattle.paper.specs.Questions.{hasPlace}
 use Rattle.paper.specs.Stream.{StreamRecord, number, recordsOf}
-use Rattle.laws.proofs.Bits.{no-places}
-use Rattle.laws.proofs.Lists.{iff-eq}
+use Rattle.laws.proofs.Bits.{no-places, shifted}
 use Rattle.stream.specs.Positions.{after, recordAt}
 use Rattle.stream.specs.RuleLists.{AddsState}
+use Rattle.stream.proofs.KeyTable.{digit-put}
 use Rattle.stream.proofs.Positions.{number-byte, records-here, records-none}
 
 -- ---- bits
 -- a bit put in is there, and every other one stays as it is
 bit-put : (j i a : ℕ) → hasPlace (bitOr a (2 ^ j)) i ≡ hasPlace a i || eqb j i
-bit-put zero zero a = eq-eqb (bitOr a 1 % 2) 1 (omega (arith, or-step a 1)) ∙ sym (or-true (eqb (a % 2) 1))
-bit-put zero (suc i) a =
-    let half : bitOr a 1 / 2 ≡ a / 2 = omega (arith, or-step a 1, or-zero-r (a / 2)) in
-    rw (half, ne-eqb 0 (suc i) (λ e. omega arith)) (sym (or-false (hasPlace (a / 2) i)))
-bit-put (suc j) zero a =
-    let even : 2 ^ suc j % 2 ≡ 0 = omega arith in
-    let low : bitOr a (2 ^ suc j) % 2 ≡ a % 2 = omega (arith, or-step a (2 ^ suc j)) in
-    rw (low, ne-eqb (suc j) 0 (λ e. omega arith)) (sym (or-false (eqb (a % 2) 1)))
-bit-put (suc j) (suc i) a =
-    let even : 2 ^ suc j / 2 ≡ 2 ^ j = omega arith in
-    let half : bitOr a (2 ^ suc j) / 2 ≡ bitOr (a / 2) (2 ^ j) = omega (arith, or-step a (2 ^ suc j), ap (bitOr (a / 2)) even) in
-    rw half (bit-put j i (a / 2)) ∙ ap (λ c. hasPlace (a / 2) i || c) step
-  where
-    step : eqb j i ≡ eqb (suc j) (suc i)
-    step =
-        iff-eq (eqb j i) (eqb (suc j) (suc i)) (λ e. eq-eqb (suc j) (suc i) (ap suc (eqb-true j i e)))
-        (λ e. eq-eqb j i (omega (arith, eqb-true (suc j) (suc i) e)))
+bit-put j i a = sym (shifted (bitOr a (2 ^ j)) i) ∙ digit-put a j i ∙ ap (λ c. c || eqb j i) (shifted a i)
 
 -- ---- one record
 module _ (input : List ℕ) (at old : ℕ) where

@@ -1,5 +1,5 @@
 -- The table of keys as words of bits: a key that is put in is there, and no other comes or goes; a new table has none.
-use mathlib.Core.Bool.{_||_, false, true}
+use mathlib.Core.Bool.{_||_, false, or-false, or-true, true}
 use mathlib.Core.List.{List, List·Memᴰ·not-nil, []}
 use mathlib.Core.Logic.{_⊎_, inl, inr, ⊎-elim}
 use mathlib.Core.Path.{_∙_, _≡_, ap, sym}
@@ -37,6 +37,20 @@ no-digit i j other = ⊎-elim (λ e. low (ltb-true i j e)) (λ e. high (ltb-fals
 
     high : j ≤ i → 2 ^ j / 2 ^ i % 2 ≡ 0
     high h = ap (λ n. n % 2) (div-eq-of-lt (pow-lt (let l : j < i = omega arith in l)))
+
+-- a bit put in is there, and every other one stays as it is
+pub digit-put : (a j i : ℕ) → eqb (bitOr a (2 ^ j) / 2 ^ i % 2) 1 ≡ eqb (a / 2 ^ i % 2) 1 || eqb j i
+digit-put a j i = ⊎-elim (λ e. here (eqb-true j i e)) (λ e. other e (eqb-false j i e)) (which (eqb j i))
+  where
+    here : j ≡ i → eqb (bitOr a (2 ^ j) / 2 ^ i % 2) 1 ≡ eqb (a / 2 ^ i % 2) 1 || eqb j i
+    here e =
+        eq-eqb (bitOr a (2 ^ j) / 2 ^ i % 2) 1 (omega (arith, or-digit a (2 ^ j) i, power-digit i, ap (λ n. 2 ^ n / 2 ^ i % 2) e))
+        ∙ rw (eq-eqb j i e) (sym (or-true (eqb (a / 2 ^ i % 2) 1)))
+
+    other : eqb j i ≡ false → (j ≡ i → ⊥) → eqb (bitOr a (2 ^ j) / 2 ^ i % 2) 1 ≡ eqb (a / 2 ^ i % 2) 1 || eqb j i
+    other e n =
+        ap (λ d. eqb d 1) (let z : bitOr a (2 ^ j) / 2 ^ i % 2 ≡ a / 2 ^ i % 2 = omega (arith, or-digit a (2 ^ j) i, no-digit i j (λ w. n (sym w))) in z)
+        ∙ rw e (sym (or-false (eqb (a / 2 ^ i % 2) 1)))
 
 -- ---- a key put in
 module _ (said : List ℕ) (key mask : ℕ) (inside : key / 64 < length said) (one : mask ≡ 2 ^ (key % 64)) where
