@@ -18,7 +18,9 @@ use builds::{Buffers, BUILD_TURNS};
 use random::Random;
 use tarnsatchel::MOST_RECORDS;
 use times::{print_line, print_titles};
-use workloads::{any_shape, any_states, comb, every_left_side, places_seen, query_q, query_q_behind, rule_said_twice, Own, RULES_OF_Q};
+use workloads::{
+    any_shape, any_states, comb, every_left_side, places_seen, query_q, query_q_behind, rule_said_twice, Own, RULES_OF_Q,
+};
 
 /// How often each call but a build is timed.
 const TURNS: usize = 301;
@@ -40,7 +42,7 @@ fn main() {
     for (title, all) in [
         ("as nodes and arity grow", growth()),
         ("many rules: of many labels, of one", many_rules()),
-        ("random shapes, most slots filled", random_shapes(Own::Few, &[(2, 4), (2, 8), (3, 3), (3, 4)])),
+        ("random shapes, most slots filled", random_shapes(Own::Few, &[(2, 4), (2, 6), (3, 3), (3, 4)])),
         ("the same, a rule for every left side", random_shapes(Own::All, &[(2, 4), (2, 8), (3, 2), (3, 3)])),
     ] {
         print_titles(title, &["ordinary", "unchecked"]);
