@@ -23,7 +23,7 @@ abbrev pub smallTable : ℕ
 smallTable = 128
 
 abbrev pub middleTable : ℕ
-middleTable = 1040
+middleTable = 1041
 
 abbrev pub largeTable : ℕ
 largeTable = 4113

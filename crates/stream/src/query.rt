@@ -126,8 +126,8 @@ fn each_record(input: &[u8], facts: QueryFacts, said: &mut [u64]) -> QueryRead
 // a small query: so it is the least of the three that has a bit for each key.
 // For arity 2 with 4 states, which has 4,368 keys, and up to 8,192: 1 KiB is cleared in some 15 ns.
 const SMALL_TABLE: usize = 128;
-// For arity 2 with 16 states, which has 65,808 keys, and a few more.
-const MIDDLE_TABLE: usize = 1040;
+// For arity 2 with 16 states, which has 65,808 keys, and arity 4 with 8, which has 66,576.
+const MIDDLE_TABLE: usize = 1041;
 // For arity 4 with 16 states, the most: 263,184 keys.
 const LARGE_TABLE: usize = 4113;
 

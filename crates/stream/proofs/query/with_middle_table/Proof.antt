@@ -8,7 +8,7 @@ slice-aggregate-each-record : tie.Need-slice-aggregate-each-record
 slice-aggregate-each-record c = search needs
 
 each-record-requires : tie.Need-each-record-requires
-each-record-requires c κs = let a = c .before .before in (a .pre .0, new-table (a .args .facts) 1040 (a .pre .1))
+each-record-requires c κs = let a = c .before .before in (a .pre .0, new-table (a .args .facts) 1041 (a .pre .1))
 
 returns : tie.Need-returns
 returns c = search needs
