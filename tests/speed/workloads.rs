@@ -1,5 +1,5 @@
 //! What is timed: combs of any number of leaves, with the paper's query Q, alone or behind rules for other labels, with one whose states
-//! are the places seen so far, or with one that has every left side of a label; and trees of random shape with random rules.
+//! are the places seen so far, or with one that has nearly every left side of a label; and trees of random shape with random rules.
 
 use crate::kinds::{ACCEPTING, BRANCH, BRANCH_RULE, HEAD, LEAF, LEAF_RULE};
 use crate::random::Random;
@@ -7,6 +7,9 @@ use crate::random::Random;
 /// The labels of a comb's leaves and branches, for which Q has its rules.
 const COMB_LEAF: u8 = 5;
 const COMB_BRANCH: u8 = 9;
+
+/// All that a node may have.
+const LABELS: usize = 64;
 
 /// The rules of Q.
 pub const RULES_OF_Q: usize = 11;
@@ -26,13 +29,15 @@ pub fn query_q() -> Vec<u8> {
 
 /// Q behind so many branch rules that match no node: they are spread over all labels above those of a comb, in turn.
 pub fn query_q_behind(rules: usize) -> Vec<u8> {
-    const FIRST_LABEL: usize = 10;
-    const OTHER_LABELS: usize = 64 - FIRST_LABEL;
-    // of Q's four states, and of as many flags
-    let mut query = vec![HEAD, 2, 4];
+    const FIRST_LABEL: usize = COMB_BRANCH as usize + 1;
+    const OTHER_LABELS: usize = LABELS - FIRST_LABEL;
+    const ARITY: usize = 2;
+    const STATES: usize = 4;
+    const PAIRS: usize = STATES * STATES;
+    let mut query = vec![HEAD, ARITY as u8, STATES as u8];
     for number in 0..rules {
         let (label, left_side) = (FIRST_LABEL + number % OTHER_LABELS, number / OTHER_LABELS);
-        let (flag, left, right) = (left_side / 16, left_side / 4 % 4, left_side % 4);
+        let (flag, left, right) = (left_side / PAIRS, left_side / STATES % STATES, left_side % STATES);
         query.extend([BRANCH_RULE, label as u8, flag as u8, left as u8, right as u8, 0]);
     }
     for (flag, state) in [(0, 0), (1, 1), (2, 3)] {
@@ -113,7 +118,7 @@ pub fn any_shape(random: &mut Random, leaves: usize) -> Vec<u8> {
 /// Which flags of their own the rules of a branch have.
 #[derive(Clone, Copy)]
 pub enum Own {
-    /// None for every pair of states, and each other flag for one pair: most rules of a query pass a state on.
+    /// None for every pair of states, and each other flag for one pair: most rules of a branch pass states on.
     Few,
     /// Every one for every pair: every left side has a rule, so every row has a run.
     All,
