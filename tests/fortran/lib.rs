@@ -10,7 +10,6 @@ pub struct Pair {
     /// The tree's file and the query's, without their endings.
     pub name: String,
     pub input: Vec<u8>,
-    pub nodes: usize,
     pub rows: u64,
 }
 
@@ -23,12 +22,9 @@ fn pair(line: &str) -> Pair {
     let [unit, query, rows] = line.split(' ').collect::<Vec<_>>()[..] else {
         panic!("rows.txt: {line:?} is no pair with its rows")
     };
-    let tree = read(&format!("{unit}.records"));
     Pair {
         name: format!("{unit} {query}"),
-        // each node is a kind and a label
-        nodes: tree.len() / 2,
-        input: [tree, read(&format!("{query}.query"))].concat(),
+        input: [read(&format!("{unit}.records")), read(&format!("{query}.query"))].concat(),
         rows: rows.parse().expect("how many rows"),
     }
 }

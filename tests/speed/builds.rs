@@ -41,7 +41,8 @@ pub fn built(input: &[u8], buffers: &mut Buffers) -> Built {
     built
 }
 
-/// What the ordinary program makes is let go inside its time, as its caller would: no turn finds the memory of the one before taken.
+/// What the ordinary program makes is freed inside its time, since its caller would have to free it too: so each turn can have the
+/// memory of the turn before again.
 pub fn time_build(input: &[u8], buffers: &mut Buffers) -> Medians {
     let mut times = Times::of_turns();
     for _ in 0..BUILD_TURNS {

@@ -19,7 +19,7 @@ use random::Random;
 use tarnsatchel::MOST_RECORDS;
 use times::{print_line, print_titles};
 use workloads::{
-    any_shape, any_states, comb, every_left_side, places_seen, query_q, query_q_behind, rule_said_twice, Own, RULES_OF_Q,
+    any_shape, any_states, comb, many_of_one_label, places_seen, query_q, query_q_behind, rule_said_twice, Own, RULES_OF_Q,
 };
 
 /// How often each call but a build is timed.
@@ -90,7 +90,7 @@ fn many_rules() -> Vec<Named> {
     let spread = |nodes: usize, rules: usize| {
         (format!("{nodes} nodes, {rules} rules"), [comb_of(nodes), query_q_behind(rules - RULES_OF_Q)].concat())
     };
-    let of_one = |nodes: usize| (format!("{nodes} nodes, 1024 rules of one label"), [comb_of(nodes), every_left_side()].concat());
+    let of_one = |nodes: usize| (format!("{nodes} nodes, 1024 rules of one label"), [comb_of(nodes), many_of_one_label()].concat());
     let all = [3, 63, 1_001].into_iter().flat_map(|nodes| [11, 128, 512, 1_024].map(|rules| spread(nodes, rules)));
     all.chain([63, 1_001].map(of_one)).collect()
 }

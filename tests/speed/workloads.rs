@@ -1,5 +1,5 @@
 //! What is timed: combs of any number of leaves, with the paper's query Q, alone or behind rules for other labels, with one whose states
-//! are the places seen so far, or with one that has nearly every left side of a label; and trees of random shape with random rules.
+//! are the places seen so far, or with one that has the most rules, all of two labels; and trees of random shape with random rules.
 
 use crate::kinds::{ACCEPTING, BRANCH, BRANCH_RULE, HEAD, LEAF, LEAF_RULE};
 use crate::random::Random;
@@ -31,6 +31,7 @@ pub fn query_q() -> Vec<u8> {
 pub fn query_q_behind(rules: usize) -> Vec<u8> {
     const FIRST_LABEL: usize = COMB_BRANCH as usize + 1;
     const OTHER_LABELS: usize = LABELS - FIRST_LABEL;
+    // Q's own
     const ARITY: usize = 2;
     const STATES: usize = 4;
     const PAIRS: usize = STATES * STATES;
@@ -57,8 +58,9 @@ pub fn rule_said_twice() -> Vec<u8> {
 
 /// Every row is accepted; 16 states, and with arity 4 the most rules that such a query has, 272.
 pub fn places_seen(arity: usize) -> Vec<u8> {
+    const STATES: u8 = 16;
     let flags = 1u8 << arity;
-    let mut query = vec![HEAD, arity as u8, 16];
+    let mut query = vec![HEAD, arity as u8, STATES];
     for flag in 0..flags {
         query.extend([LEAF_RULE, COMB_LEAF, flag, flag]);
     }
@@ -76,12 +78,13 @@ pub fn places_seen(arity: usize) -> Vec<u8> {
 /// 1,024 rules, all for the labels of a comb: for each of four flags a leaf rule and, behind it, a branch rule for each pair of 16 states
 /// but the last. A state is the places seen at leaves, and times four those seen at branches, so every row is accepted. Of the pairs at
 /// a branch most have nothing on one side: a leaf has four states, the tree so far at most nine.
-pub fn every_left_side() -> Vec<u8> {
-    const FLAGS: u8 = 4;
+pub fn many_of_one_label() -> Vec<u8> {
+    const ARITY: u8 = 2;
+    const FLAGS: u8 = 1 << ARITY;
     const STATES: u8 = 16;
     let pairs = (0..STATES).flat_map(|left| (0..STATES).map(move |right| (left, right)));
     let all_but_the_last = pairs.clone().count() - 1;
-    let mut query = vec![HEAD, 2, STATES];
+    let mut query = vec![HEAD, ARITY, STATES];
     for own in 0..FLAGS {
         query.extend([LEAF_RULE, COMB_LEAF, own, own]);
         for (left, right) in pairs.clone().take(all_but_the_last) {
