@@ -10,7 +10,7 @@ use native.Mathlib.Omega.{arith}
 use borrow.Author.Tests.{le-leb, leb-true}
 use lib.Dec.{eqb, leb}
 use lib.ListN.{length, length-append}
-use Rattle.paper.specs.Building.{Slots, Split, acceptStep, allPlaces, branchStep, isEmpty, leafStep, made, newRecord, productRecord, put, recordSets, singleRecord, slotsOf, splits, together, triple, unionRecord, unite}
+use Rattle.paper.specs.Building.{Slots, Split, acceptStep, allPlaces, branchStep, canStand, isEmpty, leafStep, made, newRecord, productRecord, put, recordSets, singleRecord, slotsOf, splits, together, triple, unionRecord, unite}
 use Rattle.paper.specs.Lists.{has, through, upTo}
 use Rattle.paper.specs.Query.{Query, Rule, branchRule, leafRule}
 use Rattle.paper.specs.Records.{productOf, singleOf, unionOf}
@@ -66,7 +66,7 @@ union-grows n b (at i) (at j) s = new-grows (unionOf n b i j) s
 
 pub leaf-grows : (label n : ℕ) (z : List Record × Slots Set) (r : Rule) → Grows (z .0) ((leafStep recordSets label n z r) .0)
 leaf-grows label n z (branchRule a b p q t) = grows-none (z .0)
-leaf-grows label n z (leafRule a b q) = go (eqb label a) (put (z .1) q b ((singleRecord n b (z .0)) .1))
+leaf-grows label n z (leafRule a b q) = go (eqb label a && canStand label b) (put (z .1) q b ((singleRecord n b (z .0)) .1))
   where
     go : (c : Bool) (f : Slots Set) → Grows (z .0) ((cond {A = List Record × Slots Set} c ((singleRecord n b (z .0)) .0, f) z) .0)
     go true f = single-grows n b (z .0)

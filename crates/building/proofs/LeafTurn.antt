@@ -1,12 +1,14 @@
--- One rule of a leaf: where its single goes, and where the building then stands.
+-- One rule of a leaf: what the code asks of the numbers, where its single goes, and where the building then stands, also where the rule
+-- is never used.
+use mathlib.Core.Bool.{Bool, false, true}
 use mathlib.Core.List.{List, _++_}
 use mathlib.Core.Logic.{inl}
-use mathlib.Core.Path.{_∙_, _≡_, ap₂, subst, sym}
+use mathlib.Core.Path.{_∙_, _≡_, ap, ap₂, refl, subst, sym}
 use Prim.Native.Nat.{_+_, _<_, _^_, _≤_, ℕ}
 use native.Mathlib.Omega.{arith}
-use borrow.Author.Tests.{ne-eqb}
+use borrow.Author.Tests.{eq-eqb, ne-eqb}
 use lib.ListN.{drop, getD, length}
-use Rattle.paper.specs.Building.{Slots, leafStep, put, recordSets}
+use Rattle.paper.specs.Building.{Slots, canStand, leafStep, put, recordSets}
 use Rattle.paper.specs.Query.{leafRule}
 use Rattle.paper.specs.Refusals.{queryIn}
 use Rattle.paper.specs.Stream.{number, recordsOf}
@@ -15,14 +17,15 @@ use Rattle.building.specs.Batch.{Record, Set, recordsIn}
 use Rattle.building.specs.Bounds.{mostFlags, mostStates}
 use Rattle.building.specs.Branches.{shelfFrom}
 use Rattle.building.specs.Kinds.{leafKind, ruleAbove}
-use Rattle.building.specs.Rules.{Leaves, OneShelf}
+use Rattle.building.specs.Rules.{Leaves}
 use Rattle.building.specs.Slots.{shelfAt}
 use Rattle.building.specs.Standing.{AtRule, Standing, State}
+use Rattle.building.specs.States.{more}
 use Rattle.building.proofs.Frames.{flags-at-most, slot-below}
-use Rattle.building.proofs.Limits.{more-records}
+use Rattle.building.proofs.Limits.{constants-stay, more-records}
 use Rattle.building.proofs.NodeRules.{LeafRuleAt, fewer-left, leaf-first, leaf-rule-at, on-to-next}
 use Rattle.building.proofs.OwnShelf.{Onward, low-shelf, own-shelf, shelf-rest, shelf-standing}
-use Rattle.building.proofs.Present.{NodeReady, kind-here, node-ready}
+use Rattle.building.proofs.Present.{NodeReady, kind-here, label-here, node-ready}
 use Rattle.building.proofs.Running.{shelf-put, slot-shelf}
 
 -- where the shelf of a leaf's rule stands
@@ -62,64 +65,87 @@ module _ (input : List ℕ) (t : State) (work : List ℕ) (made : List Record) (
         );
       }
 
--- the rule is done
+-- ---- the rule is done: the next one stands behind it
 module _ (input : List ℕ) (t : State) (work batch : List ℕ) (base : List Record) (s : Standing input t work (base ++ recordsIn (t .count) batch))
-    (start : length base ≡ t .from) (h : t .rule < length input) (leaf : getD input (t .at) 0 ≡ leafKind) (count next : ℕ)
-    (work′ batch′ : List ℕ) (long : length work′ ≡ length work) where
+    (h : t .rule < length input) (leaf : getD input (t .at) 0 ≡ leafKind) (next : ℕ)
+    (found : NextRule input (after input (t .rule)) (s .node .here .kind + ruleAbove) (number (s .node .here) 0) next) where
   abbrev made : List Record
   made = base ++ recordsIn (t .count) batch
+
+  abbrev label : ℕ
+  label = number (s .node .here) 0
+
+  abbrev flag : ℕ
+  flag = getD input (t .rule + 2) 0
 
   abbrev state : ℕ
   state = getD input (t .rule + 3) 0
 
-  abbrev slots : Slots Set
-  slots = put (s .slots) (getD input (t .rule + 3) 0) (getD input (t .rule + 2) 0) (shelfAt work′ (leafShelf input t) (getD input (t .rule + 2) 0))
-
   kind : s .node .here .kind ≡ leafKind
   kind = leaf-kind input t work made s h leaf
 
-  bytes : LeafRuleAt input t (number (s .node .here) 0)
+  bytes : LeafRuleAt input t label
   bytes = leaf-bytes input t work made s h leaf
 
-  module _ (e : Leaves (t .node) (getD input (t .rule + 2) 0) (leafShelf input t) (t .from) (t .count) batch work count batch′ work′)
-      (found : NextRule input (after input (t .rule)) (s .node .here .kind + ruleAbove) (number (s .node .here) 0) next) where
-    step : leafStep recordSets (number (s .node .here) 0) (t .node) (made, s .slots)
-        (leafRule (number (s .node .here) 0) (number (recordAt input (t .rule)) 1) (number (recordAt input (t .rule)) 2))
-        ≡ (base ++ recordsIn count batch′, slots)
-    step =
-        ap₂ (λ b q. leafStep recordSets (number (s .node .here) 0) (t .node) (made, s .slots) (leafRule (number (s .node .here) 0) b q))
-        (bytes .flag-byte) (bytes .state-byte)
-        ∙ e .leaves base (s .slots) (number (s .node .here) 0) (getD input (t .rule + 3) 0) start
+  -- what it makes of the records and slots so far, the others go on with
+  onward : {z′ : List Record × Slots Set} → leafStep recordSets label (t .node) (made, s .slots) (leafRule label flag state) ≡ z′
+      → AtRule input (t .node) next (s .node .here) (s .node .earlier) (s .node .stack) z′
+  onward {z′} step =
+      on-to-next input t (s .constants) (s .node .here) (s .node .earlier) (s .node .stack) (made, s .slots) (s .rule) h next found (inl kind) z′
+      (leaf-first (queryIn input) (s .node .here) (t .node) (s .node .stack) kind (recordAt input (t .rule))
+      (recordsOf (drop (after input (t .rule)) input)) (bytes .rule) (made, s .slots) z′
+      (ap₂ (λ b q. leafStep recordSets label (t .node) (made, s .slots) (leafRule label b q)) (bytes .flag-byte) (bytes .state-byte) ∙ step))
 
-    onward : AtRule input (t .node) next (s .node .here) (s .node .earlier) (s .node .stack) (base ++ recordsIn count batch′, slots)
-    onward =
-        on-to-next input t (s .constants) (s .node .here) (s .node .earlier) (s .node .stack) (made, s .slots) (s .rule) h next found
-        (inl kind) (base ++ recordsIn count batch′, slots)
-        (leaf-first (queryIn input) (s .node .here) (t .node) (s .node .stack) kind (recordAt input (t .rule))
-        (recordsOf (drop (after input (t .rule)) input)) (bytes .rule) (made, s .slots) (base ++ recordsIn count batch′, slots) step)
+  fewer : length (recordsOf (drop next input)) < length (recordsOf (drop (t .rule) input))
+  fewer = fewer-left input t (s .constants) (s .node .here) (s .node .earlier) (s .node .stack) (made, s .slots) (s .rule) h next found
 
-    one-shelf : OneShelf (leafShelf input t) (2 ^ t .arity) (t .from) 1 (t .count) work count work′
-    one-shelf =
-        slot-shelf (e .slot) (2 ^ t .arity) (bytes .flag) (low-shelf input t work made s (t .top) state (omega arith) (bytes .state))
+  -- whether the leaf can stand there, by the byte that the code has
+  stands-here : {c : Bool} → c ≡ canStand (getD input (t .at + 1) 0) flag → (d : Bool) → c ≡ d → canStand label flag ≡ d
+  stands-here e d c-is = ap (λ a. canStand a flag) (sym (label-here input t (s .constants) (s .node))) ∙ sym e ∙ c-is
+
+  -- it is used
+  module _ (start : length base ≡ t .from) (count : ℕ) (work′ batch′ : List ℕ) (long : length work′ ≡ length work) where
+    abbrev slots : Slots Set
+    slots = put (s .slots) state flag (shelfAt work′ (leafShelf input t) flag)
 
     others : (q b : ℕ) → (q ≡ state → ⊥) → slots q b ≡ s .slots q b
     others q b apart = rw (ne-eqb state q (λ same. apart (sym same)))
 
-    leaf-stepped : Onward input t work base count next work′ batch′
-    leaf-stepped =
+    leaf-stepped : canStand label flag ≡ true → Leaves (t .node) flag (leafShelf input t) (t .from) (t .count) batch work count batch′ work′
+        → Onward input t work base count next work′ batch′
+    leaf-stepped stands e =
+        let one-shelf = slot-shelf (e .slot) (2 ^ t .arity) (bytes .flag) (low-shelf input t work made s (t .top) state (omega arith) (bytes .state)) in
         let shelf = shelf-put (e .slot) (2 ^ t .arity) state (s .slots) (own-shelf input t work made s state (bytes .state)) in
         let used : length (base ++ recordsIn count batch′) ≡ t .from + count = omega (arith, more-records base count batch′) in
+        let there = onward (e .leaves base (s .slots) label state start stands) in
         record {
-          standing = shelf-standing input t work made s state (bytes .state) (base ++ recordsIn count batch′) slots used long one-shelf shelf others onward;
-          rest = shelf-rest input t work made s state (bytes .state) (base ++ recordsIn count batch′) slots used long one-shelf shelf others onward;
+          standing = shelf-standing input t work made s state (bytes .state) (base ++ recordsIn count batch′) slots used long one-shelf shelf others there;
+          rest = shelf-rest input t work made s state (bytes .state) (base ++ recordsIn count batch′) slots used long one-shelf shelf others there;
           few = omega (arith, e .slot .few);
-          fewer =
-              fewer-left input t (s .constants) (s .node .here) (s .node .earlier) (s .node .stack) (made, s .slots) (s .rule) h next found;
+          fewer = fewer;
         }
 
-  -- of the numbers that the code has
-  pub leaf-onward : {to : ℕ} → to ≡ leafShelf input t
-      → Leaves (t .node) (getD input (t .rule + 2) 0) to (t .from) (t .count) batch work count batch′ work′
-      → NextRule input (after input (t .rule)) (s .node .here .kind + ruleAbove) (number (s .node .here) 0) next → Onward input t work base count next work′ batch′
-  leaf-onward same e =
-      leaf-stepped (subst (λ x. Leaves (t .node) (getD input (t .rule + 2) 0) x (t .from) (t .count) batch work count batch′ work′) same e)
+    -- of the numbers that the code has
+    pub leaf-onward : {c : Bool} → c ≡ canStand (getD input (t .at + 1) 0) flag → c ≡ true → {to : ℕ} → to ≡ leafShelf input t
+        → Leaves (t .node) flag to (t .from) (t .count) batch work count batch′ work′ → Onward input t work base count next work′ batch′
+    leaf-onward asked stands same e =
+        leaf-stepped (stands-here asked true stands)
+        (subst (λ x. Leaves (t .node) flag x (t .from) (t .count) batch work count batch′ work′) same e)
+
+  -- it is never used: all stays
+  pub leaf-passed : {c : Bool} → c ≡ canStand (getD input (t .at + 1) 0) flag → c ≡ false → Onward input t work base (t .count) next work batch
+  leaf-passed asked stands-not = record {
+    standing = record {
+      going = s .going;
+      over = s .over;
+      constants = constants-stay input t (more t (t .count) next) refl refl refl refl refl refl (s .constants);
+      node = s .node;
+      slots = s .slots;
+      rule = onward (rw (eq-eqb label label refl, stands-here asked false stands-not));
+      frames = record { frames = s .frames .frames; low = s .frames .low; room = s .frames .room };
+      used = s .used;
+    };
+    rest = refl;
+    few = omega arith;
+    fewer = fewer;
+  }

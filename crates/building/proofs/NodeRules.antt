@@ -98,7 +98,7 @@ module _ (Q : Query) (r : StreamRecord) (n : ℕ) (stack : List (Slots Set)) whe
       → atNode Q r n stack (rulesOf rs) z′ ≡ atNode Q r n stack (rulesOf (rule ∷ rs)) z
   leaf-first e rule rs h z z′ step =
       leaf-rules e (rulesOf rs) z′
-      ∙ ap (λ y. through (leafStep recordSets (number r 0) n) y (rulesOf rs)) (sym (rw (eq-eqb (number r 0) (number r 0) refl) at step))
+      ∙ ap (λ y. through (leafStep recordSets (number r 0) n) y (rulesOf rs)) (sym step)
       ∙ sym (leaf-here recordSets (number r 0) n z rule rs h)
       ∙ sym (leaf-rules e (rulesOf (rule ∷ rs)) z)
 

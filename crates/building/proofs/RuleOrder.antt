@@ -12,11 +12,15 @@ use Rattle.paper.specs.Query.{branchRule, leafRule, rulesOf}
 use Rattle.paper.specs.Stream.{StreamRecord, number}
 use Rattle.laws.proofs.Lists.{here, through-append}
 use Rattle.building.specs.Kinds.{branchRuleKind, leafRuleKind}
-use Rattle.building.specs.RuleOrder.{BranchRuleFor, LeafRuleFor, leafBy, splitsFor}
+use Rattle.building.specs.RuleOrder.{BranchRuleFor, LeafRuleFor, splitsFor}
 
 -- ---- a leaf
 module _ {S E : Type 0} (A : Sets S E) (label n : ℕ) where
-  -- a record that is no leaf rule with this label changes nothing
+  -- a leaf rule with another label changes nothing
+  other-label : (z : S × Slots E) (a b q : ℕ) → (a ≡ label → ⊥) → leafStep A label n z (leafRule a b q) ≡ z
+  other-label z a b q other = rw (ne-eqb label a (λ e. other (sym e)))
+
+  -- nor does a record that is none
   pub leaf-skip : (z : S × Slots E) (r : StreamRecord) (rs : List StreamRecord) → (LeafRuleFor label r → ⊥)
       → through (leafStep A label n) z (rulesOf (r ∷ rs)) ≡ through (leafStep A label n) z (rulesOf rs)
   leaf-skip z r rs other = go (eqb (r .kind) leafRuleKind) (eqb (r .kind) branchRuleKind) refl
@@ -26,8 +30,8 @@ module _ {S E : Type 0} (A : Sets S E) (label n : ℕ) where
           (branchRule (number r 0) (number r 1) (number r 2) (number r 3) (number r 4)) ∷ rulesOf rs) (rulesOf rs))
           ≡ through (leafStep A label n) z (rulesOf rs)
       go true d e =
-          ap (λ (c : Bool). through (leafStep A label n) (cond {A = S × Slots E} c (leafBy A n r z) z) (rulesOf rs))
-          (ne-eqb label (number r 0) (λ w. other (eqb-true (r .kind) leafRuleKind e, sym w)))
+          ap (λ y. through (leafStep A label n) y (rulesOf rs))
+          (other-label z (number r 0) (number r 1) (number r 2) (λ w. other (eqb-true (r .kind) leafRuleKind e, w)))
       go false true e = refl
       go false false e = refl
 
@@ -37,10 +41,11 @@ module _ {S E : Type 0} (A : Sets S E) (label n : ℕ) where
   leaf-skips z (r ∷ skipped) rs others =
       leaf-skip z r (skipped ++ rs) (others r here) ∙ leaf-skips z skipped rs (λ x m. others x (List·Memᴰ·tail m))
 
-  -- a leaf rule with this label puts the single in its slot
+  -- a leaf rule with this label goes first
   pub leaf-here : (z : S × Slots E) (r : StreamRecord) (rs : List StreamRecord) → LeafRuleFor label r
-      → through (leafStep A label n) z (rulesOf (r ∷ rs)) ≡ through (leafStep A label n) (leafBy A n r z) (rulesOf rs)
-  leaf-here z r rs h = rw (eq-eqb (r .kind) leafRuleKind (h .0), eq-eqb label (number r 0) (sym (h .1)))
+      → through (leafStep A label n) z (rulesOf (r ∷ rs))
+      ≡ through (leafStep A label n) (leafStep A label n z (leafRule label (number r 1) (number r 2))) (rulesOf rs)
+  leaf-here z r rs h = rw (eq-eqb (r .kind) leafRuleKind (h .0), h .1)
 
 -- ---- a branch
 module _ (arity label : ℕ) where

@@ -1,10 +1,11 @@
 -- One slot: a leaf rule's single put into it, and a split united with it. B and W are the batch and the work, a prime is afterwards.
+use mathlib.Core.Bool.{true}
 use mathlib.Core.List.{List, _++_}
 use mathlib.Core.Path.{_∙_, _≡_, ap, refl, sym}
 use Prim.Native.Nat.{_+_, ℕ}
 use borrow.Author.Tests.{eq-eqb}
 use lib.ListN.{length}
-use Rattle.paper.specs.Building.{Slots, leafStep, productRecord, put, recordSets, singleRecord, triple, unionRecord, unite}
+use Rattle.paper.specs.Building.{Slots, canStand, leafStep, productRecord, put, recordSets, singleRecord, triple, unionRecord, unite}
 use Rattle.paper.specs.Query.{leafRule}
 use Rattle.building.specs.Batch.{Made, Makes, Record, Set, recordsIn, setIn}
 use Rattle.building.specs.Bounds.{splitRecords, tripleRecords}
@@ -24,13 +25,13 @@ pub leaf-put : (n b to used k : ℕ) (B W : List ℕ) (m : Made) (B′ W′ : Li
 leaf-put n b to used k B W m B′ W′ made p =
     record { leaves = leaves; slot = slot-put to b 1 used k B W (singleRecord n b) m B′ W′ made p }
   where
-    leaves : (base : List Record) (slots : Slots Set) (label t : ℕ) → length base ≡ used
+    leaves : (base : List Record) (slots : Slots Set) (label t : ℕ) → length base ≡ used → canStand label b ≡ true
         → leafStep recordSets label n (base ++ recordsIn k B, slots) (leafRule label b t)
         ≡ (base ++ recordsIn (m .count) B′, put slots t b (shelfAt W′ to b))
-    leaves base slots label t e =
+    leaves base slots label t e stands =
         let single : singleRecord n b (base ++ recordsIn k B) ≡ (base ++ recordsIn (m .count) B′, shelfAt W′ to b) =
         made .makes base e ∙ ap (λ x. (base ++ recordsIn (m .count) B′, setIn x)) (sym (p .there)) in
-        rw (eq-eqb label label refl) (ap (λ w. (w .0, put slots t b (w .1))) single)
+        rw (eq-eqb label label refl, stands) (ap (λ w. (w .0, put slots t b (w .1))) single)
 
 module _ (rule : Branch) (b₁ b₂ left right k : ℕ) (B : List ℕ) where
   abbrev tripled : List Record → List Record × Set

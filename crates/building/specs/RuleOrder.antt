@@ -1,9 +1,9 @@
--- The rules of a query as its records stand in the stream, one after the other, and what a matching one does at a node.
+-- The rules of a query as its records stand in the stream, one after the other, and the splits of a matching one.
 use mathlib.Core.Path.{_≡_}
 use mathlib.Core.List.{List, map}
 use Prim.Native.Nat.{ℕ}
 use Rattle.paper.specs.Stream.{StreamRecord, number}
-use Rattle.paper.specs.Building.{Sets, Slots, Split, flagsBeside, put}
+use Rattle.paper.specs.Building.{Split, flagsBeside}
 use Rattle.building.specs.Kinds.{branchRuleKind, leafRuleKind}
 
 -- the record is a leaf rule, or a branch rule, for this label
@@ -12,12 +12,6 @@ LeafRuleFor label r = (r .kind ≡ leafRuleKind) × (number r 0 ≡ label)
 
 abbrev pub BranchRuleFor : ℕ → StreamRecord → Type 0
 BranchRuleFor label r = (r .kind ≡ branchRuleKind) × (number r 0 ≡ label)
-
--- node n by a leaf rule: the single in the rule's slot
-abbrev pub leafBy : {S E : Type 0} → Sets S E → ℕ → StreamRecord → S × Slots E → S × Slots E
-leafBy A n r (s, slots) =
-    let (s₁, e) = A .single n (number r 1) s in
-    (s₁, put slots (number r 2) (number r 1) e)
 
 -- the splits of a branch rule
 abbrev pub splitsFor : ℕ → StreamRecord → List Split

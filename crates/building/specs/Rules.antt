@@ -1,11 +1,11 @@
 -- What one rule does at one node, said of the numbers of a batch and of the work: a slot, a split, a leaf rule; then shelves of slots,
 -- the splits at a list of flags, and a branch rule. A name with a prime is what is found afterwards.
-use mathlib.Core.Bool.{cond, _&&_}
+use mathlib.Core.Bool.{cond, true, _&&_}
 use mathlib.Core.List.{List, [], _∷_, _++_, map}
 use mathlib.Core.Path.{_≡_}
 use Prim.Native.Nat.{ℕ, _+_, _*_, _^_, _≤_, _<_}
 use lib.ListN.{getD, length}
-use Rattle.paper.specs.Building.{Slots, Split, branchStep, leafStep, put, recordSets, splitsBy, triple, unite}
+use Rattle.paper.specs.Building.{Slots, Split, branchStep, canStand, leafStep, put, recordSets, splitsBy, triple, unite}
 use Rattle.paper.specs.Lists.{each, through, upTo}
 use Rattle.paper.specs.Query.{branchRule, leafRule}
 use Rattle.paper.specs.Sound.{apart}
@@ -23,9 +23,9 @@ pub record OneSlot (to flag most used k : ℕ) (work : List ℕ) (count : ℕ) (
   pub puts : Puts to flag set work work′
   pub at-hand : set ≤ used + count + 1
 
--- a leaf rule that matches: the single of its flag, put into its slot
+-- a leaf rule that matches and is used: the single of its flag, put into its slot
 pub record Leaves (node flag to used k : ℕ) (batch work : List ℕ) (count : ℕ) (batch′ work′ : List ℕ) : Type 0 where
-  pub leaves : (base : List Record) (slots : Slots Set) (label t : ℕ) → length base ≡ used
+  pub leaves : (base : List Record) (slots : Slots Set) (label t : ℕ) → length base ≡ used → canStand label flag ≡ true
       → leafStep recordSets label node (base ++ recordsIn k batch, slots) (leafRule label flag t)
       ≡ (base ++ recordsIn count batch′, put slots t flag (shelfAt work′ to flag))
   pub slot : OneSlot to flag 1 used k work count work′

@@ -20,6 +20,7 @@ use crate::frame::frame_width;
 use crate::frame::shelf_at;
 use crate::rule::Branch;
 use crate::rule::branch_rule;
+use crate::rule::can_stand;
 use crate::rule::leaf_rule;
 use crate::state::State;
 use crate::state::count_records;
@@ -45,21 +46,26 @@ pub(crate) fn leaf_rules(
     requires { ⌜ (batchNumbers ≤ length (now batch)) × (t .count ≤ waitingRecords) ⌝ }
     ensures { λ r. ⌜ Turned (now (input .entry)) t (now (work .entry)) (now (batch .entry)) r (now (work .exit)) (now (batch .exit)) ⌝ }
 {
+    let at = t.at;
+    let label = input[at + 1];
     let mut count = t.count;
     let mut rule = t.rule;
     while rule < input.len() && count <= WAITING_RECORDS {
-        // The slot of this rule is in the node's own frame, the one on top.
         let flag = input[rule + 2] as usize;
-        let to = shelf_at(t.arity, t.states, t.top, input[rule + 3] as usize);
-        count = leaf_rule(
-            &mut *batch,
-            &mut *work,
-            count,
-            t.from,
-            t.node as u16,
-            flag,
-            to,
-        );
+        // A rule that would let a pad stand in a row is passed over.
+        if can_stand(label, flag) {
+            // The slot of this rule is in the node's own frame, the one on top.
+            let to = shelf_at(t.arity, t.states, t.top, input[rule + 3] as usize);
+            count = leaf_rule(
+                &mut *batch,
+                &mut *work,
+                count,
+                t.from,
+                t.node as u16,
+                flag,
+                to,
+            );
+        }
         rule = rule_after(lists, rule - t.rules);
     }
     // Once a turn, and not once a rule: until it is stored the batch may go past the limit.

@@ -1,11 +1,12 @@
 // One rule at one node: the records that it makes go into a batch, the sets into the shelf of the rule's
-// state in the node's frame. First a leaf rule; then a branch rule: one split, the splits with one left
-// flag, and all of them. A split is a flag b1 for the left child and a flag b2 for the right one.
+// state in the node's frame. First a leaf rule, and whether it is used; then a branch rule: one split, the
+// splits with one left flag, and all of them. A split is a flag b1 for the left child and a flag b2 for the
+// right one.
 ghost use mathlib.Core.Path.{_≡_};
 ghost use Prim.Native.Nat.{_+_, _*_, _≤_, _<_};
 ghost use lib.Bits.{bitAnd};
 ghost use lib.ListN.{length};
-ghost use Rattle.paper.specs.Building.{triple, recordSets};
+ghost use Rattle.paper.specs.Building.{canStand, triple, recordSets};
 ghost use Rattle.building.specs.Batch.{setIn, Makes, RoomFor};
 ghost use Rattle.building.specs.Bounds.{batchRecords, fieldNumbers, mostFlags, waitingRecords, splitRecords, tripleRecords};
 ghost use Rattle.building.specs.Rules.{splitAt, flagsAt, Unites, Leaves, Branches, Room, Runs};
@@ -16,6 +17,8 @@ use crate::batch::single;
 use crate::batch::union;
 use crate::slot::SETS;
 use crate::slot::put_set;
+use paper::Flag;
+use paper::limits::PAD_LABEL;
 use table::EMPTY;
 
 // A branch rule at a node: the records in the table, the node, how many flags there are, the rule's own
@@ -31,7 +34,15 @@ pub(crate) struct Branch {
     pub(crate) to: usize,
 }
 
-// A leaf rule that matches: the single of its flag, put into its slot. It is not united with what stands
+// Whether a leaf of this label can stand at the places of this flag. A pad stands in no row, so that of its
+// rules the one with no place is used alone; a branch of its label is no pad, and is not asked here.
+pub(crate) fn can_stand(label: u8, flag: usize) -> bool
+    ensures { λ r. ⌜ r ≡ canStand label flag ⌝ }
+{
+    label != PAD_LABEL || flag == Flag::NONE as usize
+}
+
+// A leaf rule that matches and is used: the single of its flag, put into its slot. It is not united with what stands
 // there: a second rule for this label and flag would have been refused with 4, so that is empty.
 pub(crate) fn leaf_rule(
     batch: &mut [u16],

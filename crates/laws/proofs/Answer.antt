@@ -1,19 +1,20 @@
 -- The answer's rows are the accepted rows, each once.
--- First flags with all places, then the answer as one list, then that the list is right.
+-- First flags with all places and with none, then the answer as one list, then that the list is right.
 use mathlib.Core.Bool.{Bool, cond, false, true}
-use mathlib.Core.List.{List, [], _++_, _∷_, append-assoc, append-nil, List·Memᴰ·cases-cons, List·Memᴰ·not-nil, List·Memᴰ·tail}
-use mathlib.Core.Logic.{_↔_, _⊎_, inl, inr}
+use mathlib.Core.List.{List, [], _++_, _∷_, append-assoc, append-nil, List·Memᴰ·cases-cons, List·Memᴰ·head, List·Memᴰ·not-nil, List·Memᴰ·tail}
+use mathlib.Core.Logic.{_↔_, _⊎_, inl, inr, ⊎-elim}
 use mathlib.Core.Option.{some}
 use mathlib.Core.Path.{_∙_, _≡_, ap, refl, sym}
 use Prim.Native.Nat.{_*_, _+_, _≤_, suc, ℕ}
 use native.Mathlib.Nat.{pow-suc}
 use native.Mathlib.Omega.{arith}
+use borrow.Author.Tests.{eq-eqb, ne-eqb}
 use lib.ListN.{length}
 use lib.Pow.{pow-pos}
 use Rattle.paper.specs.Building.{Slots, acceptStep, allPlaces}
 use Rattle.paper.specs.Lists.{Once, _∈_, each, has, through, upTo}
 use Rattle.paper.specs.Query.{Query}
-use Rattle.paper.specs.Row.{Accepted, Row, flagOf, run}
+use Rattle.paper.specs.Row.{Accepted, Row, flagOf, mark, noPlace, run}
 use Rattle.paper.specs.Tree.{Tree, root}
 use Rattle.laws.specs.Numbered.{Deterministic, InRange, Numbered}
 use Rattle.laws.specs.RowSets.{answerRows, rowSets}
@@ -40,6 +41,17 @@ pass-all p [] h = (refl, refl)
 pass-all p (y ∷ ys) h =
     let (kept, flag) = pass-all p ys (λ x m. h x (List·Memᴰ·tail m)) in
     rw (h y here, kept) (refl, omega (arith, pow-suc 2 (length ys), pow-pos (length ys)))
+
+-- ---- the flag with no place: a row names a node exactly if the node is marked with some place
+not-marked : (n : ℕ) (row : Row) → n ∈ row → mark row n ≡ noPlace → ⊥
+not-marked n [] m e = List·Memᴰ·not-nil m
+not-marked n (x ∷ xs) m e =
+    ⊎-elim (λ w. omega (arith, ap bit (eq-eqb x n (sym w)))) (λ w. not-marked n xs w (omega arith)) (List·Memᴰ·cases-cons m)
+
+not-named : (n : ℕ) (row : Row) → (n ∈ row → ⊥) → mark row n ≡ noPlace
+not-named n [] other = refl
+not-named n (x ∷ xs) other =
+    omega (arith, ap bit (ne-eqb x n (λ e. other (List·Memᴰ·head (sym e)))), not-named n xs (λ m. other (List·Memᴰ·tail m)))
 
 module _ (Q : Query) (t : Tree) where
   -- ---- the answer as one list
@@ -85,6 +97,7 @@ module _ (Q : Query) (t : Tree) where
         record {
           places = h .places;
           nodes = λ x w. omega (arith, within-true 0 nodes x (inside x w), size-numbered numbered);
+          no-pads = λ x w m. not-marked x row w (h .unmarked x m);
           state = q;
           runs = h .runs;
           accepts = has-true (Q .accepting) q accepting;
@@ -98,7 +111,13 @@ module _ (Q : Query) (t : Tree) where
         λ x w. in-within 0 nodes x (omega arith) (omega (arith, h .nodes x w, size-numbered numbered)) in
         let (kept, flag) = pass-all (within 0 nodes) row inside in
         let held : Holds (Q .arity) (Q .rules) 0 t nodes q full row =
-        record { places = h .places; kept = kept; flag = flag ∙ ap allPlaces (h .places); runs = h .runs } in
+        record {
+          places = h .places;
+          kept = kept;
+          flag = flag ∙ ap allPlaces (h .places);
+          unmarked = λ x m. not-named x row (λ w. h .no-pads x w m);
+          runs = h .runs;
+        } in
         rw answer-each
         (in-each (upTo (Q .states)) chosen (in-upTo (Q .states) (in-range .accepts q (h .accepts)))
         (in-cond (has (Q .accepting) q) (true-has (Q .accepting) q (h .accepts)) (slots-right .complete q full row held)))

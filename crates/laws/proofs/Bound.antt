@@ -1,6 +1,6 @@
 -- How many records a build makes at most: 4 for each split, and one union less than accepting states at the end.
 -- First the flags beside an own flag, by a test that antt computes, then the records of one step, of a node, of the tree, and the end.
-use mathlib.Core.Bool.{Bool, _||_, cond, false, true}
+use mathlib.Core.Bool.{Bool, _&&_, _||_, cond, false, true}
 use mathlib.Core.List.{List, [], _∷_, map, List·Memᴰ·cases-cons, List·Memᴰ·head, List·Memᴰ·not-nil, List·Memᴰ·tail, Memᴰ·cast}
 use mathlib.Core.Logic.{⊎-elim}
 use mathlib.Core.Path.{_∙_, _≡_, ap, refl}
@@ -10,7 +10,7 @@ use native.Mathlib.Omega.{arith}
 use borrow.Author.Tests.{leb-true}
 use lib.Dec.{eqb, leb}
 use lib.ListN.{length, length-append, length-map}
-use Rattle.paper.specs.Building.{Slots, Split, acceptStep, allPlaces, answerOf, branchStep, flagsBeside, isEmpty, leafStep, newRecord, put}
+use Rattle.paper.specs.Building.{Slots, Split, acceptStep, allPlaces, answerOf, branchStep, canStand, flagsBeside, isEmpty, leafStep, newRecord, put}
 use Rattle.paper.specs.Building.{productRecord, recordSets, singleRecord, slotsOf, splits, splitsBy, together, triple, unionRecord, unite}
 use Rattle.paper.specs.Lists.{Once, _∈_, each, every, has, through, upTo}
 use Rattle.paper.specs.Query.{Query, Rule, branchRule, leafRule}
@@ -87,7 +87,7 @@ one-union n b (at i) (at j) s = omega (arith, length-append s (unionOf n b i j �
 -- so a leaf's rule makes at most one, and a branch's split at most four: its triple three, and the union
 leaf-step : (a n : ℕ) (z : List Record × Slots Set) (r : Rule) → length ((leafStep recordSets a n z r) .0) ≤ length (z .0) + 1
 leaf-step a n z (branchRule a′ b p q t) = omega arith
-leaf-step a n z (leafRule a′ b q) = go (eqb a a′)
+leaf-step a n z (leafRule a′ b q) = go (eqb a a′ && canStand a b)
   where
     single : List Record × Set
     single = singleRecord n b (z .0)

@@ -2,7 +2,7 @@
 -- what of it lies in the node, in the left and in the right subtree shows the three parts again, so a row comes from one split only.
 -- In order: the three tests, a row made of three parts, a row taken apart, and the slots.
 use mathlib.Core.Bool.{Bool, _&&_, _||_, false, true}
-use mathlib.Core.List.{List, [], _∷_, map, Memᴰ·cast}
+use mathlib.Core.List.{List, [], _∷_, map, List·Memᴰ·append-cases, Memᴰ·append-left, Memᴰ·append-right, Memᴰ·cast}
 use mathlib.Core.Logic.{⊎-elim}
 use mathlib.Core.Option.{Option, some}
 use mathlib.Core.Path.{_∙_, _≡_, ap, ap₂, refl, sym}
@@ -16,15 +16,15 @@ use Rattle.paper.specs.Building.{Slots, Split, splits, together}
 use Rattle.paper.specs.Lists.{Once, _∈_, each}
 use Rattle.paper.specs.Query.{Rule, branchRule, side}
 use Rattle.paper.specs.Row.{Row, blank, flagOf, mark, merge, products, run, singleRow}
-use Rattle.paper.specs.Tree.{Tree, branch}
+use Rattle.paper.specs.Tree.{Tree, branch, pads}
 use Rattle.laws.specs.Numbered.{Numbered, ruleFlag}
-use Rattle.laws.proofs.Held.{Holds, Right, in-within, slotRows, within, within-true}
+use Rattle.laws.proofs.Held.{Holds, PadsUnmarked, Right, in-within, slotRows, within, within-true}
 use Rattle.laws.proofs.Lists.{here, iff-eq, in-cond, in-each, mem-cond, mem-each, not-then-false, once-cond, once-each, once-one}
 use Rattle.laws.proofs.Lists.{only, or-cases, or-left, or-right}
 use Rattle.laws.proofs.Rows.{Apart, Fitting, either, flagOf-apart, flagOf-cong, flagOf-either, flagOf-keep, flagOf-lt, flagOf-single}
 use Rattle.laws.proofs.Rows.{is, is-blank, keep, keep-cong, keep-is, keep-keep, keep-merge, keep-single, length-keep, length-merge}
 use Rattle.laws.proofs.Rows.{length-single, merge-both, merge-first, merge-second}
-use Rattle.laws.proofs.Runs.{branch-parts, finds-rule, numbered-below, rule-found, run-keep, step-some}
+use Rattle.laws.proofs.Runs.{branch-parts, finds-rule, numbered-below, pads-keep, rule-found, run-keep, step-some}
 use Rattle.laws.proofs.Slots.{branch-slots, gives, same-slot, splitRows}
 use Rattle.laws.proofs.Splits.{IsSplit, in-products, in-splits, mem-products, mem-splits, once-products, once-splits, splitOf}
 
@@ -37,6 +37,12 @@ run-part : (rules : List Rule) {lo : ℕ} {t : Tree} {hi : ℕ} → Numbered lo 
     → (row part : Row) → keep (within lo hi) row ≡ part → run rules row t ≡ run rules part t
 run-part rules {lo} {t} {hi} numbered none row part e =
     sym (run-keep (within lo hi) none row rules numbered (in-within lo hi)) ∙ ap (λ (z : Row). run rules z t) e
+
+-- and its pads stand in a row where they stand in that part
+pads-part : {lo : ℕ} {t : Tree} {hi : ℕ} → Numbered lo t hi → within lo hi blank ≡ false
+    → (row part : Row) → keep (within lo hi) row ≡ part → (n : ℕ) → n ∈ pads t → mark row n ≡ mark part n
+pads-part {lo} {t} {hi} numbered none row part e n m =
+    sym (pads-keep (within lo hi) none row numbered (in-within lo hi) n m) ∙ ap (λ (z : Row). mark z n) e
 
 -- a product has no row twice if two tests show the rows that each merger is made of
 once-kept : (p q : ℕ → Bool) (xs ys : List Row) → Once xs → Once ys
@@ -147,6 +153,7 @@ module _ (k : ℕ) (rules : List Rule) (deterministic : Once (map side rules)) (
     leftFlag : flagOf inLeft row ≡ x .leftFlag
     right : run rules row r ≡ some (x .right)
     rightFlag : flagOf inRight row ≡ x .rightFlag
+    unmarked : PadsUnmarked (branch a n l r) row
     places : length row ≡ k
     kept : keep inBranch row ≡ row
 
@@ -222,6 +229,10 @@ module _ (k : ℕ) (rules : List Rule) (deterministic : Once (map side rules)) (
         leftFlag = flag-part inLeft left-blank whole u whole-left ∙ hu .flag;
         right = run-part rules nr right-blank whole v whole-right ∙ hv .runs;
         rightFlag = flag-part inRight right-blank whole v whole-right ∙ hv .flag;
+        unmarked =
+            λ y w.
+            ⊎-elim (λ m. pads-part nl left-blank whole u whole-left y m ∙ hu .unmarked y m)
+            (λ m. pads-part nr right-blank whole v whole-right y m ∙ hv .unmarked y m) (List·Memᴰ·append-cases (pads l) w);
         places = length-merge inner v (outer-fits .same-length) ∙ inner-places;
         kept =
             keep-cong inBranch (either inInner inRight) in-branch whole
@@ -245,11 +256,12 @@ module _ (k : ℕ) (rules : List Rule) (deterministic : Once (map side rules)) (
   -- ---- a row that a slot of the branch holds, taken apart
   -- what of a row lies in a child is held by the slot of its state and its flag
   child-held : {from to : ℕ} {t : Tree} → Numbered from t to → within from to blank ≡ false → (q : ℕ) (row : Row) → length row ≡ k
-      → run rules row t ≡ some q → Holds k rules from t to q (flagOf (within from to) row) (keep (within from to) row)
-  child-held {from} {to} numbered none q row places runs = record {
+      → PadsUnmarked t row → run rules row t ≡ some q → Holds k rules from t to q (flagOf (within from to) row) (keep (within from to) row)
+  child-held {from} {to} numbered none q row places unmarked runs = record {
     places = length-keep (within from to) row ∙ places;
     kept = keep-keep (within from to) (within from to) none (λ x e. e) row;
     flag = sym (flag-part (within from to) none row (keep (within from to) row) refl);
+    unmarked = λ y m. sym (pads-part numbered none row (keep (within from to) row) refl y m) ∙ unmarked y m;
     runs = sym (run-part rules numbered none row (keep (within from to) row) refl) ∙ runs;
   }
 
@@ -284,8 +296,8 @@ module _ (k : ℕ) (rules : List Rule) (deterministic : Once (map side rules)) (
         flag = sym (branch-flag row) ∙ h .flag;
         left = keep inLeft row;
         right = keep inRight row;
-        left-held = child-held nl left-blank p₁ row (h .places) left-runs;
-        right-held = child-held nr right-blank p₂ row (h .places) right-runs;
+        left-held = child-held nl left-blank p₁ row (h .places) (λ y m. h .unmarked y (Memᴰ·append-left (pads r) m)) left-runs;
+        right-held = child-held nr right-blank p₂ row (h .places) (λ y m. h .unmarked y (Memᴰ·append-right (pads l) m)) right-runs;
         merged = sym (h .kept) ∙ branch-kept row ∙ rw (keep-is n row, h .places);
       }
 
@@ -367,6 +379,7 @@ module _ (k : ℕ) (rules : List Rule) (deterministic : Once (map side rules)) (
           places = s .places;
           kept = s .kept;
           flag = branch-flag row ∙ rw (s .own, s .leftFlag, s .rightFlag) flag;
+          unmarked = s .unmarked;
           runs = rw (s .own, s .left, s .right) (found ∙ ap {B = Option ℕ} some state);
         }
 

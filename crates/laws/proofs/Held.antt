@@ -11,8 +11,8 @@ use lib.ListN.{length}
 use Rattle.paper.specs.Building.{slotsOf}
 use Rattle.paper.specs.Lists.{Once, _∈_}
 use Rattle.paper.specs.Query.{Rule}
-use Rattle.paper.specs.Row.{Row, flagOf, run}
-use Rattle.paper.specs.Tree.{Tree}
+use Rattle.paper.specs.Row.{Row, flagOf, mark, noPlace, run}
+use Rattle.paper.specs.Tree.{Tree, pads}
 use Rattle.laws.specs.RowSets.{rowSets}
 use Rattle.laws.proofs.Lists.{both-true}
 use Rattle.laws.proofs.Rows.{keep}
@@ -30,12 +30,17 @@ pub in-within : (lo hi x : ℕ) → lo ≤ x → x < hi → within lo hi x ≡ t
 in-within lo hi x a b = rw (le-leb lo x a, lt-ltb x hi b)
 
 -- ---- slots
+-- the pads of the tree stand at no place of the row
+abbrev pub PadsUnmarked : Tree → Row → Type 0
+PadsUnmarked t row = (n : ℕ) → n ∈ pads t → mark row n ≡ noPlace
+
 -- the row is held by the slot (q, b) of the tree t, whose nodes are those from lo to below hi:
--- it has k places, nodes of the tree at the places of b and blanks at the others, and a run with it gives the root state q
+-- it has k places, nodes of the tree but for its pads at the places of b and blanks at the others, and a run with it gives the root state q
 pub record Holds (k : ℕ) (rules : List Rule) (lo : ℕ) (t : Tree) (hi : ℕ) (q b : ℕ) (row : Row) : Type 0 where
   pub places : length row ≡ k
   pub kept : keep (within lo hi) row ≡ row
   pub flag : flagOf (within lo hi) row ≡ b
+  pub unmarked : PadsUnmarked t row
   pub runs : run rules row t ≡ some q
 
 -- the rows that building puts in the slot

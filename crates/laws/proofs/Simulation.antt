@@ -8,8 +8,8 @@ use native.Mathlib.Omega.{arith}
 use borrow.Author.Tests.{eq-eqb, eqb-true}
 use lib.Bits.{bitAnd}
 use lib.Dec.{eqb}
-use Rattle.paper.specs.Building.{Sets, Slots, Split, acceptStep, allPlaces, answerOf, branchStep, leafStep, put, slotsOf, splits, together}
-use Rattle.paper.specs.Building.{triple, unite}
+use Rattle.paper.specs.Building.{Sets, Slots, Split, acceptStep, allPlaces, answerOf, branchStep, canStand, leafStep, put, slotsOf, splits}
+use Rattle.paper.specs.Building.{together, triple, unite}
 use Rattle.paper.specs.Lists.{_∈_, has, through, upTo}
 use Rattle.paper.specs.Query.{Query, Rule, branchRule, leafRule}
 use Rattle.paper.specs.Tree.{Tree, branch, root}
@@ -81,7 +81,7 @@ module _ {S E F : Type 0} (A : Sets S E) (B : Sets (Unit {0}) F) (k N : ℕ)
   leaf-step : (a n : ℕ) → n < N → (r : Rule) → ruleFlag r < 2 ^ k → (s : S) (f : Slots E) (g : Slots F) → Stand s f g
       → Made Later Stand s (leafStep A a n (s, f) r) (leafStep B a n (tt, g) r .1)
   leaf-step a n node (branchRule a′ b p q t) small s f g h = (M .later-refl s, h)
-  leaf-step a n node (leafRule a′ b q) small s f g h = go (eqb a a′)
+  leaf-step a n node (leafRule a′ b q) small s f g h = go (eqb a a′ && canStand a b)
     where
       x : S × E
       x = A .single n b s

@@ -6,7 +6,7 @@ use mathlib.Core.Path.{_∙_, _≡_, ap, ap₂, refl, sym}
 use Prim.Native.Nat.{ℕ}
 use borrow.Author.Tests.{eqb-true}
 use lib.Dec.{eqb}
-use Rattle.paper.specs.Building.{Slots, Split, branchStep, leafStep, put, together}
+use Rattle.paper.specs.Building.{Slots, Split, branchStep, canStand, leafStep, put, together}
 use Rattle.paper.specs.Lists.{each, isNil, through}
 use Rattle.paper.specs.Query.{Rule, branchRule, leafRule}
 use Rattle.paper.specs.Row.{Row, products, singleRow}
@@ -18,10 +18,10 @@ pub same-slot : (q′ b′ q b : ℕ) → eqb q′ q && eqb b′ b ≡ true → 
 same-slot q′ b′ q b e = let h = both-true (eqb q′ q) (eqb b′ b) e in (eqb-true q′ q (h .0), eqb-true b′ b (h .1))
 
 -- ---- a leaf
--- a rule for this label, flag and state stands in the list
+-- a rule for this label, flag and state stands in the list, and is used
 abbrev pub leafHas : ℕ → ℕ → ℕ → List Rule → Bool
 leafHas a q b [] = false
-leafHas a q b (leafRule a′ b′ q′ ∷ rs) = eqb a a′ && (eqb q′ q && eqb b′ b) || leafHas a q b rs
+leafHas a q b (leafRule a′ b′ q′ ∷ rs) = (eqb a a′ && canStand a b′) && (eqb q′ q && eqb b′ b) || leafHas a q b rs
 leafHas a q b (branchRule a′ b′ l r t ∷ rs) = leafHas a q b rs
 
 module _ (k a n : ℕ) where
@@ -33,18 +33,18 @@ module _ (k a n : ℕ) where
   step = leafStep (rowSets k) a n
 
   leaf-step : (f : Slots (List Row)) (a′ b′ q′ q b : ℕ)
-      → step (tt, f) (leafRule a′ b′ q′) .1 q b ≡ cond (eqb a a′ && (eqb q′ q && eqb b′ b)) (one b) (f q b)
-  leaf-step f a′ b′ q′ q b = by-label (eqb a a′)
+      → step (tt, f) (leafRule a′ b′ q′) .1 q b ≡ cond ((eqb a a′ && canStand a b′) && (eqb q′ q && eqb b′ b)) (one b) (f q b)
+  leaf-step f a′ b′ q′ q b = by-rule (eqb a a′ && canStand a b′)
     where
       by-slot : (c : Bool) → eqb q′ q && eqb b′ b ≡ c → cond c (one b′) (f q b) ≡ cond c (one b) (f q b)
       by-slot true e = ap one (same-slot q′ b′ q b e .1)
       by-slot false e = refl
 
-      by-label : (c : Bool)
+      by-rule : (c : Bool)
           → (cond {A = Unit {0} × Slots (List Row)} c (tt, put f q′ b′ (one b′)) (tt, f)) .1 q b
           ≡ cond (c && (eqb q′ q && eqb b′ b)) (one b) (f q b)
-      by-label true = by-slot (eqb q′ q && eqb b′ b) refl
-      by-label false = refl
+      by-rule true = by-slot (eqb q′ q && eqb b′ b) refl
+      by-rule false = refl
 
   -- a leaf's slot has the single row if a rule asks for it, and else what was there
   pub leaf-slots : (rules : List Rule) (f : Slots (List Row)) (q b : ℕ)
@@ -53,7 +53,7 @@ module _ (k a n : ℕ) where
   leaf-slots (leafRule a′ b′ q′ ∷ rs) f q b =
       leaf-slots rs (step (tt, f) (leafRule a′ b′ q′) .1) q b
       ∙ ap (cond (leafHas a q b rs) (one b)) (leaf-step f a′ b′ q′ q b)
-      ∙ either-rule (leafHas a q b rs) (eqb a a′ && (eqb q′ q && eqb b′ b))
+      ∙ either-rule (leafHas a q b rs) ((eqb a a′ && canStand a b′) && (eqb q′ q && eqb b′ b))
     where
       either-rule : (c d : Bool) → cond c (one b) (cond d (one b) (f q b)) ≡ cond (d || c) (one b) (f q b)
       either-rule true true = refl

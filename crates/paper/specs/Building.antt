@@ -1,12 +1,12 @@
 -- 'Building', once for every kind of set: here records of a table; the laws add lists of rows.
 -- First the operations on sets, then slots and splits, a leaf, a branch, the tree, the answer, and the work.
-use mathlib.Core.Bool.{Bool, true, false, cond, _&&_, _||_}
+use mathlib.Core.Bool.{Bool, true, false, cond, not, _&&_, _||_}
 use mathlib.Core.List.{List, [], _∷_, _++_, map}
 use Prim.Native.Nat.{ℕ, _+_, _*_, _^_, _-_}
 use lib.Dec.{eqb}
 use lib.ListN.{length}
 use Rattle.paper.specs.Lists.{each, upTo, through, has}
-use Rattle.paper.specs.Tree.{Tree, leaf, branch, root}
+use Rattle.paper.specs.Tree.{Tree, leaf, branch, root, padLabel}
 use Rattle.paper.specs.Query.{Rule, leafRule, branchRule, Query}
 use Rattle.paper.specs.Row.{noPlace}
 use Rattle.paper.specs.Records.{Record, Set, empty, unit, at, singleOf, unionOf, productOf}
@@ -93,13 +93,17 @@ splitsBy arity label (branchRule a b₀ p q t) =
 abbrev pub splits : ℕ → List Rule → ℕ → List Split
 splits arity rules label = each rules (splitsBy arity label)
 
+-- request 2026-02: a leaf of this label can stand at the places of this flag. A pad can stand at none
+abbrev pub canStand : ℕ → ℕ → Bool
+canStand label b = not (eqb label padLabel) || eqb b noPlace
+
 module _ {S E : Type 0} (A : Sets S E) where
   open Sets A using (nothing, isNothing, single, product, union)
 
-  -- ---- a leaf: for each matching rule in file order, the single in its slot
+  -- ---- a leaf: for each matching rule in file order, the single in its slot. A rule of label 0 with a flag above 0 is never used
   abbrev pub leafStep : ℕ → ℕ → S × Slots E → Rule → S × Slots E
   leafStep label n (s, slots) (leafRule a b q) =
-      cond (eqb label a) (let (s₁, e) = single n b s in (s₁, put slots q b e)) (s, slots)
+      cond (eqb label a && canStand label b) (let (s₁, e) = single n b s in (s₁, put slots q b e)) (s, slots)
   leafStep label n (s, slots) (branchRule a b p q t) = (s, slots)
 
   abbrev pub leafSlots : List Rule → ℕ → ℕ → S → S × Slots E

@@ -15,3 +15,4 @@ pub mod BracketedText
 pub mod CanonicalText
 pub mod Image
 pub mod Conversions
+pub mod PadCases

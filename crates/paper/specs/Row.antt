@@ -7,7 +7,7 @@ use Prim.Native.Nat.{ℕ, zero, suc, _+_, _*_, _/_, _%_, _<_}
 use lib.Dec.{eqb}
 use lib.ListN.{length}
 use Rattle.paper.specs.Lists.{_∈_, each}
-use Rattle.paper.specs.Tree.{Tree, leaf, branch, size}
+use Rattle.paper.specs.Tree.{Tree, leaf, branch, size, pads}
 use Rattle.paper.specs.Query.{Rule, Query, stateFor}
 
 -- one number for each place: a node, or the mark for a blank place
@@ -42,10 +42,11 @@ abbrev pub run : List Rule → Row → Tree → Option ℕ
 run rules row (leaf a n) = stateFor rules (17 ∷ a ∷ mark row n ∷ [])
 run rules row (branch a n l r) = stepTo rules a (mark row n) (run rules row l) (run rules row r)
 
--- the row is in the answer: it gives a node, whatever its label, for each place, and the root's state is accepting
+-- the row is in the answer: it gives a node for each place, it names no pad, whatever the rules say, and the root's state is accepting
 pub record Accepted (t : Tree) (Q : Query) (row : Row) : Type 0 where
   pub places : length row ≡ Q .arity
   pub nodes : (x : ℕ) → x ∈ row → x < size t
+  pub no-pads : (x : ℕ) → x ∈ row → x ∈ pads t → ⊥
   pub state : ℕ
   pub runs : run (Q .rules) row t ≡ some state
   pub accepts : state ∈ Q .accepting

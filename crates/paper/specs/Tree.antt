@@ -1,6 +1,6 @@
--- The tree that the tree records make. Nodes are numbered from 0 in their order; the last is the root.
+-- The tree that the tree records make. Nodes are numbered from 0 in their order; the last is the root. At the end, its pads.
 use mathlib.Core.Bool.{cond}
-use mathlib.Core.List.{List, [], _∷_}
+use mathlib.Core.List.{List, [], _∷_, _++_}
 use Prim.Native.Nat.{ℕ, suc, _+_, max}
 use lib.Dec.{eqb}
 use lib.ListN.{length}
@@ -51,3 +51,11 @@ root (branch a n l r) = n
 abbrev pub size : Tree → ℕ
 size (leaf a n) = 1
 size (branch a n l r) = suc (size l + size r)
+
+-- request 2026-02: the nodes that are pads, which is to say leaves of label 0. A branch of label 0 is no pad
+abbrev pub padLabel : ℕ
+padLabel = 0
+
+abbrev pub pads : Tree → List ℕ
+pads (leaf a n) = cond (eqb a padLabel) (n ∷ []) []
+pads (branch a n l r) = pads l ++ pads r
