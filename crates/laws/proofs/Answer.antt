@@ -1,20 +1,19 @@
 -- The answer's rows are the accepted rows, each once.
--- First flags with all places and with none, then the answer as one list, then that the list is right.
+-- First flags with all places, then the answer as one list, then that the list is right.
 use mathlib.Core.Bool.{Bool, cond, false, true}
-use mathlib.Core.List.{List, [], _++_, _∷_, append-assoc, append-nil, List·Memᴰ·cases-cons, List·Memᴰ·head, List·Memᴰ·not-nil, List·Memᴰ·tail}
-use mathlib.Core.Logic.{_↔_, _⊎_, inl, inr, ⊎-elim}
+use mathlib.Core.List.{List, [], _++_, _∷_, append-assoc, append-nil, List·Memᴰ·cases-cons, List·Memᴰ·not-nil, List·Memᴰ·tail}
+use mathlib.Core.Logic.{_↔_, _⊎_, inl, inr}
 use mathlib.Core.Option.{some}
 use mathlib.Core.Path.{_∙_, _≡_, ap, refl, sym}
 use Prim.Native.Nat.{_*_, _+_, _≤_, suc, ℕ}
 use native.Mathlib.Nat.{pow-suc}
 use native.Mathlib.Omega.{arith}
-use borrow.Author.Tests.{eq-eqb, ne-eqb}
 use lib.ListN.{length}
 use lib.Pow.{pow-pos}
 use Rattle.paper.specs.Building.{Slots, acceptStep, allPlaces}
 use Rattle.paper.specs.Lists.{Once, _∈_, each, has, through, upTo}
 use Rattle.paper.specs.Query.{Query}
-use Rattle.paper.specs.Row.{Accepted, Row, flagOf, mark, noPlace, run}
+use Rattle.paper.specs.Row.{Accepted, Row, flagOf, run}
 use Rattle.paper.specs.Tree.{Tree, root}
 use Rattle.laws.specs.Numbered.{Deterministic, InRange, Numbered}
 use Rattle.laws.specs.RowSets.{answerRows, rowSets}
@@ -22,6 +21,7 @@ use Rattle.laws.proofs.Correct.{right}
 use Rattle.laws.proofs.Held.{Holds, Right, in-within, slotRows, within, within-true}
 use Rattle.laws.proofs.Lists.{has-true, here, in-cond, in-each, in-upTo, mem-cond, mem-each, once-cond, once-countFrom, once-each}
 use Rattle.laws.proofs.Lists.{true-has}
+use Rattle.laws.proofs.Pads.{named-marked, unnamed-unmarked}
 use Rattle.laws.proofs.Rows.{bit, keep}
 use Rattle.laws.proofs.Runs.{size-numbered}
 
@@ -41,17 +41,6 @@ pass-all p [] h = (refl, refl)
 pass-all p (y ∷ ys) h =
     let (kept, flag) = pass-all p ys (λ x m. h x (List·Memᴰ·tail m)) in
     rw (h y here, kept) (refl, omega (arith, pow-suc 2 (length ys), pow-pos (length ys)))
-
--- ---- the flag with no place: a row names a node exactly if the node is marked with some place
-not-marked : (n : ℕ) (row : Row) → n ∈ row → mark row n ≡ noPlace → ⊥
-not-marked n [] m e = List·Memᴰ·not-nil m
-not-marked n (x ∷ xs) m e =
-    ⊎-elim (λ w. omega (arith, ap bit (eq-eqb x n (sym w)))) (λ w. not-marked n xs w (omega arith)) (List·Memᴰ·cases-cons m)
-
-not-named : (n : ℕ) (row : Row) → (n ∈ row → ⊥) → mark row n ≡ noPlace
-not-named n [] other = refl
-not-named n (x ∷ xs) other =
-    omega (arith, ap bit (ne-eqb x n (λ e. other (List·Memᴰ·head (sym e)))), not-named n xs (λ m. other (List·Memᴰ·tail m)))
 
 module _ (Q : Query) (t : Tree) where
   -- ---- the answer as one list
@@ -97,7 +86,7 @@ module _ (Q : Query) (t : Tree) where
         record {
           places = h .places;
           nodes = λ x w. omega (arith, within-true 0 nodes x (inside x w), size-numbered numbered);
-          no-pads = λ x w m. not-marked x row w (h .unmarked x m);
+          no-pads = λ x w m. named-marked x row w (h .unmarked x m);
           state = q;
           runs = h .runs;
           accepts = has-true (Q .accepting) q accepting;
@@ -115,7 +104,7 @@ module _ (Q : Query) (t : Tree) where
           places = h .places;
           kept = kept;
           flag = flag ∙ ap allPlaces (h .places);
-          unmarked = λ x m. not-named x row (λ w. h .no-pads x w m);
+          unmarked = λ x m. unnamed-unmarked x row (λ w. h .no-pads x w m);
           runs = h .runs;
         } in
         rw answer-each

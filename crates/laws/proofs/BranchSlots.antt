@@ -2,7 +2,7 @@
 -- what of it lies in the node, in the left and in the right subtree shows the three parts again, so a row comes from one split only.
 -- In order: the three tests, a row made of three parts, a row taken apart, and the slots.
 use mathlib.Core.Bool.{Bool, _&&_, _||_, false, true}
-use mathlib.Core.List.{List, [], _∷_, map, List·Memᴰ·append-cases, Memᴰ·append-left, Memᴰ·append-right, Memᴰ·cast}
+use mathlib.Core.List.{List, [], _∷_, map, Memᴰ·cast}
 use mathlib.Core.Logic.{⊎-elim}
 use mathlib.Core.Option.{Option, some}
 use mathlib.Core.Path.{_∙_, _≡_, ap, ap₂, refl, sym}
@@ -21,10 +21,11 @@ use Rattle.laws.specs.Numbered.{Numbered, ruleFlag}
 use Rattle.laws.proofs.Held.{Holds, PadsUnmarked, Right, in-within, slotRows, within, within-true}
 use Rattle.laws.proofs.Lists.{here, iff-eq, in-cond, in-each, mem-cond, mem-each, not-then-false, once-cond, once-each, once-one}
 use Rattle.laws.proofs.Lists.{only, or-cases, or-left, or-right}
+use Rattle.laws.proofs.Pads.{left-pad, pad-branch, pads-keep, right-pad}
 use Rattle.laws.proofs.Rows.{Apart, Fitting, either, flagOf-apart, flagOf-cong, flagOf-either, flagOf-keep, flagOf-lt, flagOf-single}
 use Rattle.laws.proofs.Rows.{is, is-blank, keep, keep-cong, keep-is, keep-keep, keep-merge, keep-single, length-keep, length-merge}
 use Rattle.laws.proofs.Rows.{length-single, merge-both, merge-first, merge-second}
-use Rattle.laws.proofs.Runs.{branch-parts, finds-rule, numbered-below, pads-keep, rule-found, run-keep, step-some}
+use Rattle.laws.proofs.Runs.{branch-parts, finds-rule, numbered-below, rule-found, run-keep, step-some}
 use Rattle.laws.proofs.Slots.{branch-slots, gives, same-slot, splitRows}
 use Rattle.laws.proofs.Splits.{IsSplit, in-products, in-splits, mem-products, mem-splits, once-products, once-splits, splitOf}
 
@@ -232,7 +233,7 @@ module _ (k : ℕ) (rules : List Rule) (deterministic : Once (map side rules)) (
         unmarked =
             λ y w.
             ⊎-elim (λ m. pads-part nl left-blank whole u whole-left y m ∙ hu .unmarked y m)
-            (λ m. pads-part nr right-blank whole v whole-right y m ∙ hv .unmarked y m) (List·Memᴰ·append-cases (pads l) w);
+            (λ m. pads-part nr right-blank whole v whole-right y m ∙ hv .unmarked y m) (pad-branch a n l r w);
         places = length-merge inner v (outer-fits .same-length) ∙ inner-places;
         kept =
             keep-cong inBranch (either inInner inRight) in-branch whole
@@ -296,8 +297,8 @@ module _ (k : ℕ) (rules : List Rule) (deterministic : Once (map side rules)) (
         flag = sym (branch-flag row) ∙ h .flag;
         left = keep inLeft row;
         right = keep inRight row;
-        left-held = child-held nl left-blank p₁ row (h .places) (λ y m. h .unmarked y (Memᴰ·append-left (pads r) m)) left-runs;
-        right-held = child-held nr right-blank p₂ row (h .places) (λ y m. h .unmarked y (Memᴰ·append-right (pads l) m)) right-runs;
+        left-held = child-held nl left-blank p₁ row (h .places) (λ y m. h .unmarked y (left-pad a n l r m)) left-runs;
+        right-held = child-held nr right-blank p₂ row (h .places) (λ y m. h .unmarked y (right-pad a n l r m)) right-runs;
         merged = sym (h .kept) ∙ branch-kept row ∙ rw (keep-is n row, h .places);
       }
 

@@ -16,7 +16,8 @@ use Rattle.paper.specs.Row.{Row, blank, flagOf, mark, noPlace, singleRow}
 use Rattle.paper.specs.Tree.{leaf, padLabel}
 use Rattle.laws.specs.Numbered.{ruleFlag}
 use Rattle.laws.proofs.Held.{Holds, PadsUnmarked, Right, in-within, slotRows, within, within-true}
-use Rattle.laws.proofs.Lists.{both-true, here, iff-eq, in-cond, mem-cond, once-cond, once-one, only, or-cases, or-left, or-right}
+use Rattle.laws.proofs.Lists.{both-true, iff-eq, in-cond, mem-cond, once-cond, once-one, only, or-cases, or-left, or-right}
+use Rattle.laws.proofs.Pads.{leaf-pad, pad-leaf}
 use Rattle.laws.proofs.Rows.{flagOf-cong, flagOf-single, is, keep, keep-cong, keep-is, keep-single, length-single}
 use Rattle.laws.proofs.Runs.{finds-rule, leaf-parts, rule-found}
 use Rattle.laws.proofs.Slots.{leaf-slots, leafHas, same-slot}
@@ -57,15 +58,14 @@ has-leaf a q b (branchRule a′ b′ l r t ∷ rs) m stands =
 module _ (a n : ℕ) (row : Row) where
   stands-unmarked : canStand a (mark row n) ≡ true → PadsUnmarked (leaf a n) row
   stands-unmarked stands x m =
-      let (pad, it) = mem-cond (eqb a padLabel) (n ∷ []) m in
-      ap (mark row) (only it)
-      ∙ eqb-true (mark row n) noPlace (ap (λ (c : Bool). not c || eqb (mark row n) noPlace) (sym pad) ∙ stands)
+      let (pad, it) = pad-leaf a n m in
+      ap (mark row) it ∙ eqb-true (mark row n) noPlace (rw (eq-eqb a padLabel pad) at stands)
 
   unmarked-stands : PadsUnmarked (leaf a n) row → canStand a (mark row n) ≡ true
   unmarked-stands unmarked = go (eqb a padLabel) refl
     where
       go : (c : Bool) → eqb a padLabel ≡ c → not c || eqb (mark row n) noPlace ≡ true
-      go true pad = eq-eqb (mark row n) noPlace (unmarked n (in-cond (eqb a padLabel) pad here))
+      go true pad = eq-eqb (mark row n) noPlace (unmarked n (leaf-pad a n (eqb-true a padLabel pad)))
       go false other = refl
 
 -- ---- the slots

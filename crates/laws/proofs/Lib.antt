@@ -6,6 +6,7 @@ pub mod TestedCauses
 pub mod Judged
 pub mod Rows
 pub mod Runs
+pub mod Pads
 pub mod Slots
 pub mod Held
 pub mod Splits
@@ -31,6 +32,7 @@ pub mod AtEach
 pub mod ReadTree
 pub mod ReadQuery
 pub mod NoRules
+pub mod NeverUsed
 pub mod StreamPlaces
 pub mod TreeFaults
 pub mod QueryFaults

@@ -1,20 +1,19 @@
--- Runs of a query on a numbered tree. In order: rules by their sides, the run at a branch, the numbers of a tree and of its pads,
--- and that a run and the marks of the pads see of a row only its entries in the tree.
+-- Runs of a query on a numbered tree. In order: rules by their sides, the run at a branch, the numbers of a tree,
+-- and that a run sees of a row only its entries in the tree.
 use mathlib.Core.Bool.{Bool, cond, false, true, true≢false}
-use mathlib.Core.List.{List, [], _∷_, map, List·Memᴰ·append-cases, List·Memᴰ·cases-cons, List·Memᴰ·not-nil, List·Memᴰ·tail, Memᴰ·cast, Memᴰ·map}
+use mathlib.Core.List.{List, [], _∷_, map, List·Memᴰ·cases-cons, List·Memᴰ·not-nil, List·Memᴰ·tail, Memᴰ·cast, Memᴰ·map}
 use mathlib.Core.Logic.{⊎-elim}
 use mathlib.Core.Option.{Option, Option·none-ne-some, Option·some-injective, none, some}
 use mathlib.Core.Path.{_∙_, _≡_, ap, refl, sym}
 use Prim.Native.Nat.{_+_, _<_, _≤_, suc, ℕ}
 use native.Mathlib.Omega.{arith}
 use borrow.Author.Tests.{eqb-true, ne-eqb}
-use lib.Dec.{eqb}
 use Rattle.paper.specs.Lists.{Once, _∈_, same}
 use Rattle.paper.specs.Query.{Rule, branchRule, leafRule, names, side, stateFor}
 use Rattle.paper.specs.Row.{Row, blank, mark, run, stepTo}
-use Rattle.paper.specs.Tree.{Tree, padLabel, pads, root, size}
+use Rattle.paper.specs.Tree.{Tree, root, size}
 use Rattle.laws.specs.Numbered.{Numbered, branch-numbered, leaf-numbered}
-use Rattle.laws.proofs.Lists.{here, mem-cond, only, same-refl, same-true, which}
+use Rattle.laws.proofs.Lists.{here, same-refl, same-true, which}
 use Rattle.laws.proofs.Rows.{flagOf-keep, is, keep}
 
 -- ---- rules by their sides
@@ -77,21 +76,10 @@ pub root-numbered : {lo : ℕ} {t : Tree} {hi : ℕ} → Numbered lo t hi → su
 root-numbered leaf-numbered = refl
 root-numbered (branch-numbered l r) = refl
 
--- its pads have numbers of it
-pub pad-numbered : {lo : ℕ} {t : Tree} {hi : ℕ} → Numbered lo t hi → (n : ℕ) → n ∈ pads t → (lo ≤ n) × (n < hi)
-pad-numbered (leaf-numbered {a} {n = v}) n m =
-    let it : n ≡ v = only (mem-cond (eqb a padLabel) (v ∷ []) m .1) in
-    (omega arith, omega arith)
-pad-numbered (branch-numbered {l = l} nl nr) n m =
-    let left-some = numbered-below nl in
-    let right-some = numbered-below nr in
-    ⊎-elim (λ w. let h = pad-numbered nl n w in (h .0, omega arith)) (λ w. let h = pad-numbered nr n w in (omega arith, omega arith))
-    (List·Memᴰ·append-cases (pads l) m)
-
 -- ---- a run sees of a row only its entries in the tree
 module _ (p : ℕ → Bool) (p-blank : p blank ≡ false) (row : Row) where
   -- a node that passes the test keeps its mark where the entries that fail are blanked
-  mark-keep : (n : ℕ) → p n ≡ true → mark (keep p row) n ≡ mark row n
+  pub mark-keep : (n : ℕ) → p n ≡ true → mark (keep p row) n ≡ mark row n
   mark-keep n h =
       flagOf-keep p (is n) (ne-eqb blank n (λ e. true≢false (sym h ∙ ap p (sym e) ∙ p-blank))) (λ x e. ap p (eqb-true x n e) ∙ h) row
 
@@ -107,8 +95,3 @@ module _ (p : ℕ → Bool) (p-blank : p blank ≡ false) (row : Row) where
         run-keep rules nl (λ v from to. h v from (omega arith)),
         run-keep rules nr (λ v from to. h v (omega arith) (omega arith)),
       )
-
-  -- and its pads stand where they stood
-  pub pads-keep : {lo : ℕ} {t : Tree} {hi : ℕ} → Numbered lo t hi → ((v : ℕ) → lo ≤ v → v < hi → p v ≡ true)
-      → (n : ℕ) → n ∈ pads t → mark (keep p row) n ≡ mark row n
-  pads-keep numbered h n m = let (from, to) = pad-numbered numbered n m in mark-keep n (h n from to)

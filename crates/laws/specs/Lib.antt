@@ -7,3 +7,4 @@ pub mod QuestionCauses
 pub mod Said
 pub mod Fixings
 pub mod Built
+pub mod PadRules
