@@ -31,14 +31,15 @@ printf '%s\n' "tree$(repeat 2047 ' 1 0')$(repeat 2046 ' 2 63') 1 0 2 63" 'rows 2
     "text 63(63$(repeat 2045 ' 63'))" >"$out/row"
 printf '%s\n' "tree 1 0$(repeat 2047 ' 1 0 2 63')" 'rows 2047' $(seq 4094 -2 2) "text 63$(repeat 2046 '(63')$(repeat 2046 ')')" >"$out/nest"
 
-# typed LANGUAGE COMMAND ..: on a tree that is not written canonically, on README.md's, on the shortest, on the most nodes, on texts that
-# are refused, with a label that the query refuses, and with words that it cannot take
+# typed LANGUAGE COMMAND ..: on a tree that is not written canonically, on README.md's, on the shortest, with the label that pads have, on
+# the most nodes, on texts that are refused, with a label that the query refuses, and with words that it cannot take
 typed() {
     local language=$1
     shift
     prints "$language, a typed tree" 0 examples/typed.expected "$@" 5 '9 (5 6()  9(5 6 6)) ! 5 // 6'
     prints "$language, seven nodes" 0 <(printf '%s\n' 'tree 1 0 1 0 1 0 2 6 2 5 1 0 2 9' 'rows 1' 3 'text 9(5 6)') "$@" 6 '9(5 6)'
     prints "$language, a label that is not there" 0 <(printf '%s\n' 'tree 1 0 1 0 2 0' 'rows 0' 'text 0') "$@" 5 '0()'
+    prints "$language, label 0 and no pad" 0 <(printf '%s\n' 'tree 1 0 1 0 2 0 1 0 2 0' 'rows 2' 4 2 'text 0(0)') "$@" 0 '0(0)'
     prints "$language, a row of the most nodes" 0 "$out/row" "$@" 63 "63($(repeat 2046 ' 63'))"
     prints "$language, a nest of the most nodes" 0 "$out/nest" "$@" 63 "63$(repeat 2046 '(63')$(repeat 2046 ')')"
     prints "$language, a slash" 1 <(echo 'text_to_tree refused 15') "$@" 5 '9(5 / 6)'

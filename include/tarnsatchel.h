@@ -64,8 +64,9 @@ enum {
     TARN_REFUSED_TEXT = 15          /* text outside the rules of bracketed text, or bytes that are not wholly an image */
 };
 
-/* Builds the set of a stream, a tree's records and then a query's. A row is listed exactly if the tree, marked at the row's
- * nodes, has an accepting run; and it is listed once.
+/* Builds the set of a stream, a tree's records and then a query's. A row is listed exactly if it names no pad and the tree,
+ * marked at the row's nodes, has an accepting run; and it is listed once. A pad is a leaf of label 0: it has its state by its
+ * rule with flag 0, and its rules with a flag above 0 are tested and counted and never used.
  * Returns 0, or 1, 2 (tree), 3, 4 (query), 5, 6: the tree first, then the query, and in each the first record at fault.
  * Work: (1 + the most subtrees ever unjoined) * states * 2 to the arity.
  * Table: the records made stand first, the rest is as it was; after 6 every entry is blank, after 1 to 5 all is as it was. */

@@ -81,6 +81,9 @@ lines "README's example" 0
 prints "README's example in a locale that the host lacks" 0 "$out/shown" env LC_ALL=none ./list "$names.tree" "$names.txt"
 bash examples/streams/bytes.sh <"$names.txt" >"$out/names.query"
 { "${tree[@]}" <"$names.tree" && cat "$out/names.query"; } >"$out/names.stream"
+# examples/streams/names.md, 'Pads stand in no row'
+{ cat "$names.txt" && echo '17 0 1 1'; } >"$out/pads.txt"
+prints "README's example with a rule that would mark pads" 0 "$out/shown" ./list "$names.tree" "$out/pads.txt"
 
 # ---- what a file is
 

@@ -1,7 +1,7 @@
 // One rule at one node: the records that it makes go into a batch, the sets into the shelf of the rule's
-// state in the node's frame. First a leaf rule, and whether it is used; then a branch rule: one split, the
-// splits with one left flag, and all of them. A split is a flag b1 for the left child and a flag b2 for the
-// right one.
+// state in the node's frame. First whether a leaf rule is used, and a leaf rule; then a branch rule: one
+// split, the splits with one left flag, and all of them. A split is a flag b1 for the left child and a flag
+// b2 for the right one.
 ghost use mathlib.Core.Path.{_≡_};
 ghost use Prim.Native.Nat.{_+_, _*_, _≤_, _<_};
 ghost use lib.Bits.{bitAnd};
@@ -42,8 +42,8 @@ pub(crate) fn can_stand(label: u8, flag: usize) -> bool
     label != PAD_LABEL || flag == Flag::NONE as usize
 }
 
-// A leaf rule that matches and is used: the single of its flag, put into its slot. It is not united with what stands
-// there: a second rule for this label and flag would have been refused with 4, so that is empty.
+// A leaf rule that matches and is used: the single of its flag, put into its slot. It is not united with
+// what stands there: a second rule for this label and flag would have been refused with 4, so that is empty.
 pub(crate) fn leaf_rule(
     batch: &mut [u16],
     work: &mut [u64],

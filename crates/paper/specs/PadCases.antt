@@ -22,13 +22,18 @@ anyOf label =
     ∷ 18 ∷ label ∷ 0 ∷ 1 ∷ 0 ∷ 1
     ∷ 18 ∷ label ∷ 0 ∷ 0 ∷ 1 ∷ 1 ∷ []
 
--- one node, whichever. The second rule would name the pads: with it document 01 alone had listed all seven
-abbrev pub anyNode : List ℕ
-anyNode = (16 ∷ 1 ∷ 2 ∷ 17 ∷ 0 ∷ 0 ∷ 0 ∷ 17 ∷ 0 ∷ 1 ∷ 1 ∷ []) ++ (anyOf 5 ++ (anyOf 6 ++ (anyOf 9 ++ (19 ∷ 1 ∷ []))))
+-- one node, whichever, with these branch rules. The second leaf rule would name the pads
+abbrev pub anyNode : List ℕ → List ℕ
+anyNode branches = (16 ∷ 1 ∷ 2 ∷ 17 ∷ 0 ∷ 0 ∷ 0 ∷ 17 ∷ 0 ∷ 1 ∷ 1 ∷ []) ++ (branches ++ (19 ∷ 1 ∷ []))
 
--- three subtrees are unjoined at the most. Records: singles of 3 and 4 and their union, the single of 6 and the union of both
+-- document 01 alone had listed all seven nodes. Three subtrees are unjoined at the most. Records: singles of 3 and 4 and their union, the
+-- single of 6 and the union of both
 abbrev pub setTyped : Built
-setTyped = build (imageBytes typed ++ anyNode) 16 5
+setTyped = build (imageBytes typed ++ anyNode (anyOf 5 ++ (anyOf 6 ++ anyOf 9))) 16 5
+
+-- ---- `0`: pads 0 and 1, branch 0 as node 2
+abbrev pub typedZero : WrittenTree
+typedZero = record { label = 0; children = nil }
 
 -- ---- `9`: pads 0 and 1, branch 9 as node 2. The root at place 1, and at place 2 its left pad or the root itself
 abbrev pub padBeside : List ℕ
@@ -68,8 +73,9 @@ cases =
     ∷ (setIn (on setTyped (λ h table. fix h table 5 1 5 5)), holds (answer (empty, [])))
     -- a row that names a pad at one of two places: (2, 0) is not in the answer, (2, 2) is
     ∷ (recordsAndRows (build padBeside 36 1), makes (answer (1, (2 ∷ 2 ∷ []) ∷ [])))
-    -- a branch of label 0 is no pad
+    -- a branch of label 0 is no pad, also where it is typed and has pads below it
     ∷ (recordsAndRows (build zeroBranch 12 4), makes (answer (4, (2 ∷ []) ∷ (0 ∷ []) ∷ [])))
+    ∷ (recordsAndRows (build (imageBytes typedZero ++ anyNode (anyOf 0)) 12 1), makes (answer (1, (2 ∷ []) ∷ [])))
     -- one pad: nothing can stand in a row, whichever rule it has and whichever state is accepting
     ∷ (recordsAndRows (build (onePad (17 ∷ 0 ∷ 1 ∷ 1 ∷ 19 ∷ 1 ∷ [])) 8 0), makes (answer (0, [])))
     ∷ (recordsAndRows (build (onePad (17 ∷ 0 ∷ 0 ∷ 1 ∷ 17 ∷ 0 ∷ 1 ∷ 1 ∷ 19 ∷ 1 ∷ [])) 8 0), makes (answer (0, [])))

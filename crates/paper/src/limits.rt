@@ -7,7 +7,7 @@ pub const MOST_NODES: usize = 4095;
 // The label of a node, and of a rule.
 pub const HIGHEST_LABEL: u8 = 63;
 
-// The label of a pad: a leaf that stands for a missing first child or next sibling (request 2026-01).
+// The label of a pad: a leaf that stands for a missing first child or next sibling (request 2026-01), and so in no row (2026-02).
 pub const PAD_LABEL: u8 = 0;
 
 // Places of a row: the arity of a query. So a flag is below 16.
