@@ -1,6 +1,7 @@
 //! Tries all markings of a stream: every row of nodes of its tree, the rules run on the tree marked with the row, and the accepted
-//! rows listed. A plain reading of document 01, 'The input stream', 'What a row is' and the first four 'Numbers that say no'.
-//! It shares no code with the library nor with `records`, and knows nothing of sets, so that what it lists is what a row is.
+//! rows listed. A plain reading of document 01, 'The input stream', 'What a row is' and the first four 'Numbers that say no', and of
+//! request 2026-02's sentence on rows that name pads. It shares no code with the library nor with `records`, and knows nothing of
+//! sets, so that what it lists is what a row is.
 
 use std::collections::HashMap;
 
@@ -15,6 +16,9 @@ const LEAF_RULE: u8 = 17;
 const BRANCH_RULE: u8 = 18;
 const ACCEPTING: u8 = 19;
 
+/// A leaf of this label is a pad, which is nothing in the source.
+const PAD: u8 = 0;
+
 /// The kind and left side of a rule: kind, label, flag, and for a branch the children's states.
 type LeftSide = [u8; 5];
 
@@ -22,6 +26,13 @@ type LeftSide = [u8; 5];
 struct Node {
     label: u8,
     children: Option<(usize, usize)>,
+}
+
+impl Node {
+    /// A branch of label 0 is none.
+    fn is_pad(&self) -> bool {
+        self.children.is_none() && self.label == PAD
+    }
 }
 
 /// A stream that is not refused.
@@ -194,8 +205,11 @@ impl Stream {
         row
     }
 
-    /// Whether the row, a node of the tree for each place, is in the answer.
+    /// Whether the row, a node of the tree for each place, is in the answer. One that names a pad is not, whatever the rules say.
     pub fn accepts(&self, row: &[u16]) -> bool {
+        if row.iter().any(|&node| self.nodes[node as usize].is_pad()) {
+            return false;
+        }
         match self.run(&self.marked(row)) {
             Some(state) => self.accepting.contains(&state),
             None => false,

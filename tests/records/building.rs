@@ -1,8 +1,12 @@
-//! 'Building', in the paper's order, with the slots and the records in plain vectors; refusals 5 and 6.
+//! 'Building', in the paper's order, with the slots and the records in plain vectors, and with the leaf rules that request 2026-02 takes
+//! out of it; refusals 5 and 6.
 
 use crate::set::{Head, Record, Set, MOST_RECORDS, PRODUCT, UNION};
 use crate::stream::{read, Left, Query, Stream, Symbol};
 use crate::{work_after, written, After};
+
+/// A leaf of this label is a pad.
+const PAD: u8 = 0;
 
 /// What a build of an accepted stream asks for.
 #[derive(Clone, Copy, Debug, PartialEq)]
@@ -116,12 +120,13 @@ impl Building<'_> {
         self.answer(&unjoined[0])
     }
 
-    /// For each matching rule in file order, the single in its slot.
+    /// For each matching rule in file order, the single in its slot. A rule for a pad with a flag above 0 was read, and counted among
+    /// the rules; it is never used (request 2026-02).
     fn leaf(&mut self, label: u8) -> Result<Slots, u8> {
         let mut slots = Slots::empty(self.query);
         for rule in &self.query.rules {
             if let Left::Leaf { label: of, flag } = rule.side {
-                if of == label {
+                if of == label && (label != PAD || flag == 0) {
                     let single = self.single(flag as u16)?;
                     slots.put(rule.state, flag as u16, single);
                 }

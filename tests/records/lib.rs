@@ -1,5 +1,5 @@
-//! Document 01 followed with plain vectors: the exact records of a build, the answers to every question, each refusal in the paper's
-//! order, and what every lent buffer holds afterwards. It shares no code with the library nor with `markings`.
+//! Document 01, with request 2026-02, followed with plain vectors: the exact records of a build, the answers to every question, each
+//! refusal in the paper's order, and what every lent buffer holds afterwards. It shares no code with the library nor with `markings`.
 //!
 //! - `stream`: 'The input stream', refusals 1 to 4
 //! - `building`: 'Building', refusals 5 and 6
