@@ -71,3 +71,8 @@ pub fn hold_to_the_check(said_twice: &[u8], buffers: &mut Buffers) {
     assert_eq!(ordinary::build(said_twice), None, "refused by the ordinary program");
     assert_ne!(ordinary::build_unchecked(said_twice).records.len(), 0, "built without the check");
 }
+
+/// What the rules would mark and may not is passed over by all three: the stream has one row.
+pub fn hold_to_the_pads(one_row: &[u8], buffers: &mut Buffers) {
+    assert_eq!(ordinary::count(&built(one_row, buffers)), 1, "no row that names a pad");
+}

@@ -19,7 +19,8 @@ use random::Random;
 use tarnsatchel::MOST_RECORDS;
 use times::{print_line, print_titles};
 use workloads::{
-    any_shape, any_states, comb, many_of_one_label, places_seen, query_q, query_q_behind, rule_said_twice, Own, RULES_OF_Q,
+    any_shape, any_states, comb, many_of_one_label, places_seen, query_q, query_q_behind, rule_said_twice, rules_for_a_pad, Own,
+    RULES_OF_Q,
 };
 
 /// How often each call but a build is timed.
@@ -31,6 +32,7 @@ type Named = (String, Vec<u8>);
 fn main() {
     let mut buffers = Buffers::new();
     builds::hold_to_the_check(&rule_said_twice(), &mut buffers);
+    builds::hold_to_the_pads(&rules_for_a_pad(), &mut buffers);
     println!("medians in nanoseconds, {TURNS} turns, builds {BUILD_TURNS}");
     println!("builds: 'ordinary' checks that no rule is said twice, and 'unchecked' is the same without that check");
     print_titles("set", &["ordinary", "unchecked"]);

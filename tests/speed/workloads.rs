@@ -1,7 +1,7 @@
 //! What is timed: combs of any number of leaves, with the paper's query Q, alone or behind rules for other labels, with one whose states
 //! are the places seen so far, or with one that has the most rules, all of two labels; and trees of random shape with random rules.
 
-use crate::kinds::{ACCEPTING, BRANCH, BRANCH_RULE, HEAD, LEAF, LEAF_RULE};
+use crate::kinds::{ACCEPTING, BRANCH, BRANCH_RULE, HEAD, LEAF, LEAF_RULE, PAD};
 use crate::random::Random;
 
 /// The labels of a comb's leaves and branches, for which Q has its rules.
@@ -41,9 +41,7 @@ pub fn query_q_behind(rules: usize) -> Vec<u8> {
         let (flag, left, right) = (left_side / PAIRS, left_side / STATES % STATES, left_side % STATES);
         query.extend([BRANCH_RULE, label as u8, flag as u8, left as u8, right as u8, 0]);
     }
-    for (flag, state) in [(0, 0), (1, 1), (2, 3)] {
-        query.extend([LEAF_RULE, COMB_LEAF, flag, state]);
-    }
+    query.extend(leaf_rules_of_q(COMB_LEAF));
     for [left, right, state] in [[0, 0, 0], [1, 3, 2], [0, 2, 2], [2, 0, 2], [1, 0, 1], [0, 1, 1], [3, 0, 3], [0, 3, 3]] {
         query.extend([BRANCH_RULE, COMB_BRANCH, 0, left, right, state]);
     }
@@ -51,9 +49,19 @@ pub fn query_q_behind(rules: usize) -> Vec<u8> {
     query
 }
 
+fn leaf_rules_of_q(label: u8) -> Vec<u8> {
+    [(0, 0), (1, 1), (2, 3)].into_iter().flat_map(|(flag, state)| [LEAF_RULE, label, flag, state]).collect()
+}
+
 /// A comb with Q and a leaf rule of Q again, which names another state.
 pub fn rule_said_twice() -> Vec<u8> {
     [comb(2), query_q(), vec![LEAF_RULE, COMB_LEAF, 0, 1]].concat()
+}
+
+/// A comb of two leaves joined with a pad, and Q, with leaf rules for the pad too: both leaves are the one row, since a row that names
+/// the pad is not in the answer.
+pub fn rules_for_a_pad() -> Vec<u8> {
+    [comb(2), vec![LEAF, PAD, BRANCH, COMB_BRANCH], query_q(), leaf_rules_of_q(PAD)].concat()
 }
 
 /// Every row is accepted; 16 states, and with arity 4 the most rules that such a query has, 272.
@@ -99,8 +107,9 @@ pub fn many_of_one_label() -> Vec<u8> {
 
 // ---- random shapes
 
-/// Leaves and branches both have labels below this one.
+/// Leaves and branches both have so many labels, from the one behind a pad's on: every leaf may stand in a row.
 const RANDOM_LABELS: usize = 3;
+const FIRST_RANDOM_LABEL: u8 = PAD + 1;
 
 /// Leaves come and subtrees are joined as often as each other.
 pub fn any_shape(random: &mut Random, leaves: usize) -> Vec<u8> {
@@ -113,7 +122,7 @@ pub fn any_shape(random: &mut Random, leaves: usize) -> Vec<u8> {
             unjoined += 1;
             left -= 1;
         }
-        tree.extend([if joins { BRANCH } else { LEAF }, random.below(RANDOM_LABELS) as u8]);
+        tree.extend([if joins { BRANCH } else { LEAF }, FIRST_RANDOM_LABEL + random.below(RANDOM_LABELS) as u8]);
     }
     tree
 }
@@ -131,7 +140,8 @@ pub enum Own {
 /// below a node differ above it too, and fill many states.
 pub fn any_states(random: &mut Random, arity: usize, states: usize, own: Own) -> Vec<u8> {
     let mut query = vec![HEAD, arity as u8, states as u8];
-    for (label, flag) in (0..RANDOM_LABELS as u8).flat_map(|label| (0..1 << arity).map(move |flag| (label, flag))) {
+    let labels = (FIRST_RANDOM_LABEL..).take(RANDOM_LABELS);
+    for (label, flag) in labels.flat_map(|label| (0..1 << arity).map(move |flag| (label, flag))) {
         query.extend([LEAF_RULE, label, flag, random.below(states) as u8]);
         let (named, pair) = (any_order(random, states), (random.below(states), random.below(states)));
         for (left, right) in (0..states).flat_map(|left| (0..states).map(move |right| (left, right))) {

@@ -1,6 +1,6 @@
 //! How the ordinary program reads a stream: the tree's symbols in a Vec, and the rules in a Vec for each label.
 
-use crate::kinds::{ACCEPTING, BRANCH, BRANCH_RULE, HEAD, LEAF, LEAF_RULE};
+use crate::kinds::{ACCEPTING, BRANCH, BRANCH_RULE, HEAD, LEAF, LEAF_RULE, PAD};
 
 const LABELS: usize = 64;
 
@@ -24,7 +24,7 @@ pub struct BranchRule {
     pub state: usize,
 }
 
-/// The rules stand by label, each label's in the order of the stream.
+/// The rules that are used stand by label, each label's in the order of the stream.
 pub struct Query {
     pub arity: usize,
     pub states: usize,
@@ -47,7 +47,10 @@ impl Query {
                 3
             }
             [LEAF_RULE, label, flag, state, ..] => {
-                self.leaf_rules[label as usize].push(LeafRule { flag: flag as u16, state: state as usize });
+                // a pad stands in no row, so a rule that would mark one is never used
+                if label != PAD || flag == 0 {
+                    self.leaf_rules[label as usize].push(LeafRule { flag: flag as u16, state: state as usize });
+                }
                 4
             }
             [BRANCH_RULE, label, flag, left, right, state, ..] => {
