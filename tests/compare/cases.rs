@@ -6,7 +6,9 @@ use crate::garbage;
 use crate::limits;
 use crate::numbered::{Kinds, Numbered};
 use crate::random::Random;
-use crate::streams::{any_places_seen, any_valid, any_with_q, dense, grown, Stream};
+use crate::streams::{
+    any_places_seen, any_valid, any_with_q, dense, grown, leaves_all_pads, one_label, one_pad, some_pads, Stream,
+};
 use records::set::{Record, MOST_RECORDS};
 
 pub struct Case {
@@ -54,6 +56,10 @@ const RANDOM: &Kinds<Case> = &[
     (3_000, |r| enough("most left sides have a rule", r, dense)),
     (400, |r| enough("states are the places seen", r, any_places_seen)),
     (600, |r| enough("query Q", r, any_with_q)),
+    (600, |r| enough("some leaves are pads", r, some_pads)),
+    (600, |r| enough("all leaves are pads", r, leaves_all_pads)),
+    (300, |r| enough("no label but 0", r, one_label)),
+    (100, |r| enough("the tree is one pad", r, one_pad)),
     (2_000, |r| any_room("work and table exact", r, Room::Exact)),
     (1_500, |r| any_room("work one short", r, Room::WorkShort)),
     (1_500, |r| any_room("table one short", r, Room::TableShort)),

@@ -7,8 +7,9 @@ use crate::numbered::{Kinds, Numbered};
 use crate::random::Random;
 use crate::real;
 use crate::streams::{
-    any_places_seen, any_shape, any_valid, any_with_q, balanced, dense, grown, labelled, labels_of_q, left_comb, places_seen,
-    right_comb, Query, Stream, ACCEPTING, BRANCH, BRANCH_RULE, HEAD, LEAF, LEAF_RULE, MOST_RULES,
+    any_places_seen, any_shape, any_valid, any_with_q, balanced, dense, grown, labelled, labels_of_q, leaves_all_pads, left_comb,
+    one_label, one_pad, places_seen, right_comb, some_pads, Query, Stream, ACCEPTING, BRANCH, BRANCH_RULE, HEAD, LEAF, LEAF_RULE,
+    MOST_RULES, PAD,
 };
 use std::collections::HashSet;
 
@@ -32,6 +33,10 @@ const RANDOM: &Kinds<Listing> = &[
     (300, |r| whole("most left sides have a rule", r, dense)),
     (100, |r| whole("states are the places seen", r, any_places_seen)),
     (100, |r| whole("query Q", r, any_with_q)),
+    (50, |r| whole("some leaves are pads", r, some_pads)),
+    (50, |r| whole("all leaves are pads", r, leaves_all_pads)),
+    (30, |r| whole("no label but 0", r, one_label)),
+    (20, |r| whole("the tree is one pad", r, one_pad)),
     (100, |r| whole("many rows", r, many_rows)),
     (250, |r| damaged("a byte changed", r, byte_changed)),
     (150, |r| damaged("cut", r, cut)),
@@ -77,9 +82,12 @@ fn damaged(kind: &'static str, random: &mut Random, damage: fn(&mut Random, &Str
     })
 }
 
-/// So many leaves that the records fill the table, or nearly, or are a few too many.
+/// So many leaves that the records fill the table, or nearly, or are a few too many; where half of them are pads, about half of it.
 fn many_rows(random: &mut Random) -> Stream {
-    let (arity, labels) = (random.between(1, 4), labels_of_q());
+    let (arity, mut labels) = (random.between(1, 4), labels_of_q());
+    if random.chance(30) {
+        labels.leaf.push(PAD);
+    }
     let leaves = random.between(1, [1_010, 160, 55, 18][arity - 1]);
     let joining = random.pick(&[20, 50, 80, 100]);
     let kinds = any_shape(random, leaves, joining);

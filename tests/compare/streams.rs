@@ -10,6 +10,9 @@ pub const LEAF_RULE: u8 = 17;
 pub const BRANCH_RULE: u8 = 18;
 pub const ACCEPTING: u8 = 19;
 
+/// A leaf of this label is a pad and stands in no row; a branch of this label is one like any other.
+pub const PAD: u8 = 0;
+
 pub const MOST_RULES: usize = 1024;
 
 /// A stream by its records, so that damage can be done to bytes and to whole records.
@@ -81,14 +84,18 @@ pub struct Labels {
 
 /// One to three of each. Where they are the same numbers, a leaf and a branch still are different symbols.
 fn any_labels(random: &mut Random) -> Labels {
-    let mut some = || (0..random.between(1, 3)).map(|_| random.below(64) as u8).collect::<Vec<u8>>();
-    let leaf = some();
-    let branch = some();
-    if random.chance(30) {
-        Labels { branch: leaf.clone(), leaf }
-    } else {
-        Labels { leaf, branch }
+    let leaf = some_labels(random);
+    let branch = if random.chance(30) { leaf.clone() } else { some_labels(random) };
+    Labels { leaf, branch }
+}
+
+/// The label of pads is often among them, or the only one.
+fn some_labels(random: &mut Random) -> Vec<u8> {
+    let mut labels: Vec<u8> = (0..random.between(1, 3)).map(|_| random.below(64) as u8).collect();
+    if random.chance(45) {
+        labels[0] = PAD;
     }
+    labels
 }
 
 pub fn labelled(random: &mut Random, kinds: &[u8], labels: &Labels) -> Vec<[u8; 2]> {
@@ -181,27 +188,56 @@ impl Query {
     }
 }
 
-/// Rules grown along the runs of some rows, so that these rows have runs, most of them accepted.
-pub fn grown(random: &mut Random) -> Stream {
+/// Makes a stream in which these labels are in use.
+type OfLabels = fn(&mut Random, &Labels) -> Stream;
+
+fn of_any_labels(random: &mut Random, make: OfLabels) -> Stream {
     let labels = any_labels(random);
+    make(random, &labels)
+}
+
+pub fn grown(random: &mut Random) -> Stream {
+    of_any_labels(random, grown_of)
+}
+
+pub fn dense(random: &mut Random) -> Stream {
+    of_any_labels(random, dense_of)
+}
+
+pub fn any_places_seen(random: &mut Random) -> Stream {
+    of_any_labels(random, places_seen_of)
+}
+
+/// Rules grown along the runs of some rows, so that these rows have runs, most of them accepted.
+fn grown_of(random: &mut Random, labels: &Labels) -> Stream {
     let arity = random.between(1, 4);
     let leaves = most_leaves(random, arity);
-    let tree = any_tree(random, leaves, &labels);
+    let tree = any_tree(random, leaves, labels);
     let states = if random.chance(70) { random.between(1, 5) } else { random.between(1, 16) };
     let mut query = Query::new(arity, states);
-    let mut row: Vec<usize> = (0..arity).map(|_| random.below(tree.len())).collect();
+    let mut row: Vec<usize> = (0..arity).map(|_| any_node(random, &tree)).collect();
     for _ in 0..random.between(1, 8) {
         let root = grow(random, &mut query, &tree, &row);
         if random.chance(90) {
             query.accepting.insert(root);
         }
         // the next row is like this one at the other places
-        row[random.below(arity)] = random.below(tree.len());
+        row[random.below(arity)] = any_node(random, &tree);
     }
     for _ in 0..random.pick(&[0, 0, 3, 12]) {
-        query.add_any_rule(random, &labels);
+        query.add_any_rule(random, labels);
     }
     Stream { tree, query: query.shuffled(random) }
+}
+
+/// Mostly one that may stand in a row, so that there are rows; else any, so that there are rules that would name a pad.
+fn any_node(random: &mut Random, tree: &[[u8; 2]]) -> usize {
+    let others: Vec<usize> = (0..tree.len()).filter(|&node| tree[node] != [LEAF, PAD]).collect();
+    if others.is_empty() || random.chance(25) {
+        random.below(tree.len())
+    } else {
+        random.pick(&others)
+    }
 }
 
 /// Runs the row, and gives each node that has no rule one. The root's state.
@@ -222,15 +258,14 @@ fn grow(random: &mut Random, query: &mut Query, tree: &[[u8; 2]], row: &[usize])
 }
 
 /// Most left sides have a rule, so that many rows have runs.
-pub fn dense(random: &mut Random) -> Stream {
-    let labels = any_labels(random);
+fn dense_of(random: &mut Random, labels: &Labels) -> Stream {
     let arity = random.between(1, 4);
     let leaves = most_leaves(random, arity);
-    let tree = any_tree(random, leaves, &labels);
+    let tree = any_tree(random, leaves, labels);
     let mut query = Query::new(arity, random.between(1, if arity == 4 { 2 } else { 3 }));
     let (leaf, unmarked, marked) = (random.between(50, 100), random.between(60, 100), random.pick(&[0, 20, 60]));
-    add_leaf_rules(random, &mut query, &labels, leaf);
-    add_branch_rules(random, &mut query, &labels, unmarked, marked);
+    add_leaf_rules(random, &mut query, labels, leaf);
+    add_branch_rules(random, &mut query, labels, unmarked, marked);
     for state in 0..query.states as u8 {
         if random.chance(70) {
             query.accepting.insert(state);
@@ -264,7 +299,8 @@ fn add_branch_rules(random: &mut Random, query: &mut Query, labels: &Labels, unm
     }
 }
 
-/// The states are the places seen so far, as a flag: every row is accepted, or every row of leaves if no branch may be marked.
+/// The states are the places seen so far, as a flag: every row that names no pad is accepted, or every such row of leaves if no branch
+/// may be marked. Pads have the rules of other leaves, those that would name them too.
 pub fn places_seen(arity: usize, states: usize, labels: &Labels, branches: bool) -> Query {
     let mut query = Query::new(arity, states);
     let flags = query.flags();
@@ -284,21 +320,53 @@ pub fn places_seen(arity: usize, states: usize, labels: &Labels, branches: bool)
     query
 }
 
-pub fn any_places_seen(random: &mut Random) -> Stream {
-    let labels = any_labels(random);
+fn places_seen_of(random: &mut Random, labels: &Labels) -> Stream {
     let arity = random.between(1, 4);
-    let tree = any_tree(random, if arity == 4 { 4 } else { 6 }, &labels);
+    let tree = any_tree(random, if arity == 4 { 4 } else { 6 }, labels);
     let states = random.between(1 << arity, 16);
     let branches = random.chance(60);
-    Stream { tree, query: places_seen(arity, states, &labels, branches).shuffled(random) }
+    Stream { tree, query: places_seen(arity, states, labels, branches).shuffled(random) }
+}
+
+// ---- pads
+
+/// Makes any of the streams above.
+fn any_of(random: &mut Random, labels: &Labels) -> Stream {
+    let make = random.pick(&[grown_of as OfLabels, dense_of, places_seen_of]);
+    make(random, labels)
+}
+
+pub fn some_pads(random: &mut Random) -> Stream {
+    let labels = Labels { leaf: vec![PAD, random.between(1, 63) as u8], ..any_labels(random) };
+    any_of(random, &labels)
+}
+
+/// All leaves are pads, so that rows are of branches only.
+pub fn leaves_all_pads(random: &mut Random) -> Stream {
+    let labels = Labels { leaf: vec![PAD], ..any_labels(random) };
+    any_of(random, &labels)
+}
+
+/// The label of pads is that of the branches too.
+pub fn one_label(random: &mut Random) -> Stream {
+    any_of(random, &Labels { leaf: vec![PAD], branch: vec![PAD] })
+}
+
+/// The tree is one pad, so that there is no row, whatever the rules are.
+pub fn one_pad(random: &mut Random) -> Stream {
+    Stream { tree: vec![[LEAF, PAD]], ..one_label(random) }
+}
+
+// ---- query Q
+
+fn leaf_rules_of_q(label: u8) -> impl Iterator<Item = Vec<u8>> {
+    [(0, 0), (1, 1), (2, 3)].into_iter().map(move |(flag, state)| vec![LEAF_RULE, label, flag, state])
 }
 
 /// Document 01's query Q, its records in the paper's order.
 pub fn query_q() -> Vec<Vec<u8>> {
     let mut records = vec![vec![HEAD, 2, 4]];
-    for (flag, state) in [(0, 0), (1, 1), (2, 3)] {
-        records.push(vec![LEAF_RULE, 5, flag, state]);
-    }
+    records.extend(leaf_rules_of_q(5));
     for [left, right, state] in [[0, 0, 0], [1, 3, 2], [0, 2, 2], [2, 0, 2], [1, 0, 1], [0, 1, 1], [3, 0, 3], [0, 3, 3]] {
         records.push(vec![BRANCH_RULE, 9, 0, left, right, state]);
     }
@@ -312,13 +380,18 @@ pub fn labels_of_q() -> Labels {
 }
 
 pub fn any_with_q(random: &mut Random) -> Stream {
-    let mut labels = labels_of_q();
-    // a leaf that Q knows nothing of
-    if random.chance(20) {
-        labels.leaf.push(9);
+    let (mut labels, mut query) = (labels_of_q(), query_q());
+    match random.below(10) {
+        // a leaf that Q knows nothing of
+        0..=1 => labels.leaf.push(9),
+        // pads, with the rules of Q's own leaves
+        2..=5 => {
+            labels.leaf.push(PAD);
+            query.extend(leaf_rules_of_q(PAD));
+        }
+        _ => (),
     }
     let tree = any_tree(random, 12, &labels);
-    let mut query = query_q();
     if random.chance(50) {
         random.shuffle(&mut query[1..]);
     }
