@@ -83,8 +83,8 @@ fn show_group(group: &Group) {
 /// And the stream of its image with a query, where that is built.
 fn show_text(case: &Conversion, number: usize) {
     show_conversion(case);
-    if let Some((_, stream)) = queried::of_text(case, number) {
-        show_stream(&stream);
+    if let Some(queried) = queried::of_text(case, number) {
+        show_stream(&queried.case);
     }
 }
 

@@ -151,10 +151,10 @@ fn add_pair(real: &RealStreams, number: usize, trials: &mut Trials, tally: &mut 
 
 /// Of some that are accepted the image is built, with a query behind it.
 fn add_text(case: Conversion, number: usize, trials: &mut Trials, tally: &mut Tally) {
-    if let Some((image, case)) = queried::of_text(&case, number) {
+    if let Some(queried) = queried::of_text(&case, number) {
         let label = format!("text {number}");
-        tally.own(queried::KIND, &label, queried::check(&case, &image));
-        trials.add(Box::new(StreamTrial { case, label }), tally);
+        tally.own(queried::KIND, &label, queried.check());
+        trials.add(Box::new(StreamTrial { case: queried.case, label }), tally);
     }
     add_there_and_back("text, image, text", What::Texts, case, number, trials, tally);
 }

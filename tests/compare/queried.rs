@@ -3,45 +3,72 @@
 use crate::cases::{lend, Case, Room, LONGEST_TABLE};
 use crate::conversion::Conversion;
 use crate::random::Random;
-use crate::streams::{places_seen, Labels, BRANCH, MOST_RULES};
+use crate::streams::{places_seen, Labels, BRANCH, MOST_RULES, PAD};
 use crate::verdict::{same, Verdict};
+use records::set::count_of;
+use records::Record;
 
 pub const KIND: &str = "images of texts, with a query";
 
 /// One accepted text in so many is built.
 const EVERY: usize = 10;
 
-/// With arity 2 a branch's label has 16 rules and the pad has 4: for more labels there are not enough.
+/// With arity 2 a branch's label has 16 rules and pads have 4, three of them never used: for more labels there are not enough.
 const MOST_LABELS: usize = (MOST_RULES - 4) / 16;
 
 /// A larger tree with arity 1 has few markings, each of which would take long to try.
 const MOST_BYTES: usize = 200;
 
-/// Of the text with this number the image, and the case, if it is accepted and one of those that are built.
-pub fn of_text(text: &Conversion, number: usize) -> Option<(Vec<u8>, Case)> {
+/// What is built, and what is known of it from how it was made.
+pub struct Queried {
+    pub case: Case,
+    nodes: usize,
+    /// None where some written nodes have labels that the query has no rules for.
+    rows: Option<u128>,
+}
+
+/// Of the text with this number, if it is accepted and one of those that are built.
+pub fn of_text(text: &Conversion, number: usize) -> Option<Queried> {
     if number % EVERY != 0 {
         return None;
     }
     let image = texts::image_of(&text.input)?;
-    let case = case(&mut Random::of(number as u64, text.bytes), &image);
-    Some((image, case))
+    Some(queried(&mut Random::of(number as u64, text.bytes), &image))
 }
 
-/// Every row of pads and of nodes that were written is accepted, or every row of pads; but for a tree with too many labels.
-fn case(random: &mut Random, image: &[u8]) -> Case {
-    let mut labels: Vec<u8> = image.chunks(2).filter(|record| record[0] == BRANCH).map(|record| record[1]).collect();
+/// Every row of written nodes is accepted, or no branch may be marked and there is none; but for a tree with too many labels. The query
+/// would mark the pads too: these rules have to be passed over.
+fn queried(random: &mut Random, image: &[u8]) -> Queried {
+    let written: Vec<u8> = image.chunks(2).filter(|record| record[0] == BRANCH).map(|record| record[1]).collect();
+    let mut labels = written.clone();
     labels.sort();
     labels.dedup();
+    let has_all = labels.len() <= MOST_LABELS;
     labels.truncate(MOST_LABELS);
     let arity = if image.len() > MOST_BYTES { 2 } else { random.between(1, 2) };
-    let query = places_seen(arity, 1 << arity, &Labels { leaf: vec![0], branch: labels }, random.chance(70));
+    let branches = random.chance(85);
+    let query = places_seen(arity, 1 << arity, &Labels { leaf: vec![PAD], branch: labels }, branches);
     let input = [image, &query.shuffled(random).concat()].concat();
-    lend(random, KIND, input, Room::Enough, LONGEST_TABLE)
+    let rows = if branches { (written.len() as u128).pow(arity as u32) } else { 0 };
+    let case = lend(random, KIND, input, Room::Enough, LONGEST_TABLE);
+    Queried { case, nodes: image.len() / 2, rows: Some(rows).filter(|_| has_all) }
 }
 
-/// By `records` and by `markings`, to which the library's build is held in all: nothing is wrong with the tree, nor with the query, and
-/// of so many bytes every two are a node.
-pub fn check(case: &Case, image: &[u8]) -> Verdict {
-    same("refused by records", records::needs(&case.input).err(), None)?;
-    same("nodes by markings", markings::read(&case.input).map(|stream| stream.nodes()), Ok(image.len() / 2))
+impl Queried {
+    /// By `records` and by `markings`, to which the library's build is held in all: nothing is wrong with the tree, nor with the query,
+    /// of so many bytes every two are a node, and the rows are as many as they must be.
+    pub fn check(&self) -> Verdict {
+        let needs = records::needs(&self.case.input).map_err(|number| format!("refused {number} by records"))?;
+        same("nodes by markings", markings::read(&self.case.input).map(|stream| stream.nodes()), Ok(self.nodes))?;
+        match (self.rows, needs.records) {
+            (Some(rows), Some(made)) => self.check_count(rows, needs.work, made),
+            _ => Ok(()),
+        }
+    }
+
+    fn check_count(&self, rows: u128, work: usize, made: usize) -> Verdict {
+        let built = records::build(&self.case.input, &vec![0; work], &vec![Record::default(); made]);
+        let count = built.answer.map(|head| count_of(&head, &built.lent));
+        same("rows by records and as known", count, Ok(rows))
+    }
 }
