@@ -1,7 +1,8 @@
 //! Document 01's 'Examples by hand', with the values that the paper says or that were worked out from it by hand; the listing of B
 //! followed by Q as both programs print it, and request 2026-01's example as `texts` does; and each clause of 'A set is sound' broken
-//! once.
+//! once. Request 2026-02's streams stand in pads_by_hand.rs.
 
+use crate::pads_by_hand;
 use crate::tally::Tally;
 use crate::texts_by_hand::IMAGES;
 use crate::verdict::{same, Verdict};
@@ -77,6 +78,7 @@ pub fn check_all(programs: &Path, tally: &mut Tally) {
     for (label, check) in checks {
         tally.own("examples by hand", label, check());
     }
+    pads_by_hand::check_all(tally);
     let b_and_q = [B, Q].concat();
     tally.own("examples by hand", "the listing by records", prints(programs, "records", &[], &b_and_q, LISTING_OF_B.as_bytes()));
     tally.own("examples by hand", "the rows by markings", prints(programs, "markings", &[], &b_and_q, MARKINGS_OF_B.as_bytes()));
@@ -141,18 +143,37 @@ fn p10() -> Verdict {
     same("work of 47", build(B, 47, 13).answer, Err(5))
 }
 
-/// A stream on tree A, with its records and the rows in the set's order, worked out by hand.
-fn check_on_a(query: &[u8], arity: u16, made: &[[u16; 5]], expected: &[&[u16]]) -> Verdict {
-    let input = [A, query].concat();
-    let built = records::build(&input, &[GARBAGE; 99], &vec![Record::default(); made.len()]);
-    let root = Set::At(made.len() as u16 - 1);
-    let head = Head { nodes: 3, arity, open_places: (1 << arity) - 1, used: made.len() as u16, set: root };
-    same("head", built.answer, Ok(head))?;
-    same("records", &built.lent, &made.iter().map(|&fields| record(fields)).collect())?;
-    let mut expected: Vec<Row> = expected.iter().map(|row| row.to_vec()).collect();
-    same("rows", &rows(&head, &built.lent), &expected)?;
-    expected.sort();
-    same("accepted", markings::read(&input).map(|stream| stream.accepted_rows()).ok(), Some(expected))
+/// A stream, with its records and the rows in the set's order, worked out by hand. The last record is the set; where there is no row, it
+/// is empty.
+pub struct Worked<'a> {
+    pub tree: &'a [u8],
+    pub query: &'a [u8],
+    pub made: &'a [[u16; 5]],
+    pub rows: &'a [&'a [u16]],
+}
+
+impl Worked<'_> {
+    pub fn stream(&self) -> Vec<u8> {
+        [self.tree, self.query].concat()
+    }
+
+    pub fn set(&self) -> (Head, Vec<Record>) {
+        let (nodes, arity, used) = (self.tree.len() as u16 / 2, self.query[1] as u16, self.made.len() as u16);
+        let set = if self.rows.is_empty() { Set::Empty } else { Set::At(used - 1) };
+        let head = Head { nodes, arity, open_places: (1 << arity) - 1, used, set };
+        (head, self.made.iter().map(|&fields| record(fields)).collect())
+    }
+
+    pub fn check(&self) -> Verdict {
+        let (head, made) = self.set();
+        let built = records::build(&self.stream(), &[GARBAGE; 99], &vec![Record::default(); made.len()]);
+        same("head", built.answer, Ok(head))?;
+        same("records", &built.lent, &made)?;
+        let mut expected: Vec<Row> = self.rows.iter().map(|row| row.to_vec()).collect();
+        same("rows", &rows(&head, &made), &expected)?;
+        expected.sort();
+        same("accepted", markings::read(&self.stream()).map(|stream| stream.accepted_rows()).ok(), Some(expected))
+    }
 }
 
 /// One state: every leaf and the branch may stand at any places, the branch at both or at none.
@@ -174,7 +195,7 @@ fn all_splits() -> Verdict {
         // own flag 3
         [1, 2, 0, 0, 3], [2, 2, 12, 13, 3],
     ];
-    check_on_a(&query, 2, &made, &[&[1, 1], &[0, 1], &[1, 0], &[0, 0], &[2, 2]])
+    Worked { tree: A, query: &query, made: &made, rows: &[&[1, 1], &[0, 1], &[1, 0], &[0, 0], &[2, 2]] }.check()
 }
 
 /// The branch at place 3, its leaves at places 1 and 2: single, inner product, outer product, union.
@@ -190,7 +211,7 @@ fn own_places() -> Verdict {
         [1, 2, 0, 0, 4], [3, 2, 4, 0, 5], [3, 2, 5, 3, 7],
         [1, 2, 0, 0, 4], [3, 2, 7, 1, 6], [3, 2, 8, 2, 7], [2, 2, 6, 9, 7],
     ];
-    check_on_a(&query, 3, &made, &[&[0, 1, 2], &[1, 0, 2]])
+    Worked { tree: A, query: &query, made: &made, rows: &[&[0, 1, 2], &[1, 0, 2]] }.check()
 }
 
 /// States ascending, whatever the order in the file.
@@ -200,7 +221,8 @@ fn two_accepting() -> Verdict {
         16, 1, 3, 19, 2, 17, 5, 0, 0, 17, 5, 1, 1,
         18, 9, 0, 1, 0, 2, 18, 9, 0, 0, 1, 1, 19, 1,
     ];
-    check_on_a(&query, 1, &[[1, 0, 0, 0, 1], [1, 1, 0, 0, 1], [2, 2, 1, 0, 1]], &[&[1], &[0]])
+    let made = [[1, 0, 0, 0, 1], [1, 1, 0, 0, 1], [2, 2, 1, 0, 1]];
+    Worked { tree: A, query: &query, made: &made, rows: &[&[1], &[0]] }.check()
 }
 
 fn refused_streams() -> Verdict {
@@ -227,7 +249,7 @@ fn left_behind() -> Verdict {
 
 // ---- questions
 
-fn ask<A>((head, table): &(Head, Vec<Record>), question: impl Fn(Asked) -> A) -> A {
+pub fn ask<A>((head, table): &(Head, Vec<Record>), question: impl Fn(Asked) -> A) -> A {
     question(Asked { head, table, work: &[GARBAGE; 13] })
 }
 

@@ -2,10 +2,12 @@
 //! neighbours in the order.
 
 use crate::cases::{lend, Case, Room, LONGEST_TABLE};
+use crate::pad_limits;
+use crate::pads_by_hand;
 use crate::random::Random;
 use crate::streams::{
     any_shape, balanced, labelled, labels_of_q, left_comb, places_seen, query_q, right_comb, Labels, Query, Stream, ACCEPTING,
-    BRANCH, BRANCH_RULE, HEAD, LEAF, LEAF_RULE, MOST_RULES,
+    BRANCH, BRANCH_RULE, HEAD, LEAF, LEAF_RULE, MOST_RULES, PAD,
 };
 
 pub struct Limit {
@@ -14,7 +16,7 @@ pub struct Limit {
     pub room: Room,
 }
 
-const TREE_A: &[u8] = &[1, 5, 1, 5, 2, 9];
+pub const TREE_A: &[u8] = &[1, 5, 1, 5, 2, 9];
 pub const TREE_B: &[u8] = &[1, 5, 1, 5, 2, 9, 1, 5, 2, 9];
 const TREE_C: &[u8] = &[1, 5];
 
@@ -37,15 +39,16 @@ pub fn all() -> Vec<Limit> {
     short_buffers(&mut limits);
     all_states_accepting(&mut limits);
     most_records(&mut limits);
+    pad_limits::add_all(&mut limits);
     limits
 }
 
-fn add(limits: &mut Vec<Limit>, kind: &'static str, parts: &[&[u8]], room: Room) {
+pub fn add(limits: &mut Vec<Limit>, kind: &'static str, parts: &[&[u8]], room: Room) {
     limits.push(Limit { kind, input: parts.concat(), room });
 }
 
 /// One that gives every build enough.
-fn add_enough(limits: &mut Vec<Limit>, kind: &'static str, parts: &[&[u8]]) {
+pub fn add_enough(limits: &mut Vec<Limit>, kind: &'static str, parts: &[&[u8]]) {
     add(limits, kind, parts, Room::Enough);
 }
 
@@ -67,7 +70,12 @@ fn shapes() -> Vec<Vec<u8>> {
 fn most_nodes(limits: &mut Vec<Limit>) {
     let kind = "limit: 4,095 nodes";
     let rooms = [Room::Enough, Room::Exact, Room::Long, Room::WorkShort, Room::TableShort];
+    let of_pads = Labels { leaf: vec![PAD], ..labels_of_q() };
     for shape in shapes() {
+        let pads = labelled(&mut Random::of(7, 7), &shape, &of_pads).concat();
+        for branches in [true, false] {
+            add(limits, kind, &[&pads, &places_seen(1, 16, &of_pads, branches).records().concat()], Room::Exact);
+        }
         for room in rooms {
             add(limits, kind, &[&tree_for_q(&shape), &q()], room);
         }
@@ -165,8 +173,11 @@ fn flags(limits: &mut Vec<Limit>) {
     for arity in 1..=4 {
         let end = 1u8 << arity;
         for flag in [0, end - 1, end, 255] {
-            for rule in [[LEAF_RULE, 5, flag, 1].as_slice(), &[BRANCH_RULE, 9, flag, 0, 0, 1]] {
-                add_enough(limits, "limit: flags", &[TREE_A, &[HEAD, arity, 2, LEAF_RULE, 6, 0, 0], rule, &[ACCEPTING, 1]]);
+            for (leaf, branch) in [(5, 9), (PAD, PAD)] {
+                for rule in [[LEAF_RULE, leaf, flag, 1].as_slice(), &[BRANCH_RULE, branch, flag, 0, 0, 1]] {
+                    let tree = [LEAF, leaf, LEAF, leaf, BRANCH, branch];
+                    add_enough(limits, "limit: flags", &[&tree, &[HEAD, arity, 2, LEAF_RULE, 6, 0, 0], rule, &[ACCEPTING, 1]]);
+                }
             }
         }
     }
@@ -176,8 +187,9 @@ fn states(limits: &mut Vec<Limit>) {
     for end in [1, 2, 16] {
         for state in [0, end - 1, end, 255] {
             let head: &[u8] = &[HEAD, 2, end];
-            let records: [&[u8]; 5] = [
+            let records: [&[u8]; 6] = [
                 &[LEAF_RULE, 5, 1, state],
+                &[LEAF_RULE, PAD, 1, state],
                 &[BRANCH_RULE, 9, 1, state, 0, 0],
                 &[BRANCH_RULE, 9, 1, 0, state, 0],
                 &[BRANCH_RULE, 9, 1, 0, 0, state],
@@ -212,13 +224,17 @@ fn kinds(limits: &mut Vec<Limit>) {
     add_enough(limits, kind, &[&[LEAF, 5, LEAF, 5, BRANCH, 5], &same]);
 }
 
-/// The first record at fault, the tree before the query, and in one record 3 before 4.
 fn orders(limits: &mut Vec<Limit>) {
+    [5, PAD].into_iter().for_each(|label| orders_of(limits, label));
+}
+
+/// The first record at fault, the tree before the query, and in one record 3 before 4.
+fn orders_of(limits: &mut Vec<Limit>, label: u8) {
     let kind = "limit: the order of refusals";
     let head: &[u8] = &[HEAD, 2, 4];
-    let rule: &[u8] = &[LEAF_RULE, 5, 1, 1];
-    let again: &[u8] = &[LEAF_RULE, 5, 1, 2];
-    let wrong: &[u8] = &[LEAF_RULE, 5, 1, 4];
+    let rule: &[u8] = &[LEAF_RULE, label, 1, 1];
+    let again: &[u8] = &[LEAF_RULE, label, 1, 2];
+    let wrong: &[u8] = &[LEAF_RULE, label, 1, 4];
     let accept: &[u8] = &[ACCEPTING, 1];
     let queries: [&[&[u8]]; 13] = [
         &[head, rule, again, wrong],
@@ -234,9 +250,9 @@ fn orders(limits: &mut Vec<Limit>) {
         &[head, &[BRANCH_RULE, 9, 0, 1, 2, 0, BRANCH_RULE, 9, 0, 2, 1, 0]],
         &[head, &[BRANCH_RULE, 9, 0, 1, 2, 0, BRANCH_RULE, 9, 0, 1, 2, 3]],
         // a leaf rule and a branch rule are different kinds
-        &[head, rule, &[BRANCH_RULE, 5, 1, 0, 0, 1]],
+        &[head, rule, &[BRANCH_RULE, label, 1, 0, 0, 1]],
     ];
-    let trees: [&[u8]; 4] = [TREE_A, &[LEAF, 5, LEAF, 5], &[LEAF, 64], &[]];
+    let trees: [&[u8]; 4] = [&[LEAF, label, LEAF, label, BRANCH, 9], &[LEAF, label, LEAF, label], &[LEAF, 64], &[]];
     for query in queries {
         for tree in trees {
             add_enough(limits, kind, &[tree, &query.concat()]);
@@ -245,11 +261,13 @@ fn orders(limits: &mut Vec<Limit>) {
     }
 }
 
-/// B followed by Q, cut after every byte.
+/// B followed by Q, and a typed tree with a query that would mark its pads, cut after every byte.
 fn cuts(limits: &mut Vec<Limit>) {
-    let input = [TREE_B, &q()].concat();
-    for length in 0..=input.len() {
-        add_enough(limits, "limit: B and Q, cut everywhere", &[&input[..length]]);
+    let (b, typed) = ([TREE_B, &q()].concat(), pads_by_hand::TYPED.stream());
+    for (kind, input) in [("limit: B and Q, cut everywhere", b), ("limit: a typed tree, cut everywhere", typed)] {
+        for length in 0..=input.len() {
+            add_enough(limits, kind, &[&input[..length]]);
+        }
     }
 }
 
@@ -272,27 +290,28 @@ fn short_buffers(limits: &mut Vec<Limit>) {
     }
 }
 
-/// Sixteen leaves, of which the one marked decides the root's state: at the end fifteen unions.
+/// Sixteen leaves, of which the one marked decides the root's state: at the end fifteen unions. Their labels begin behind that of pads,
+/// and their branches have it.
 fn all_states_accepting(limits: &mut Vec<Limit>) {
     let kind = "limit: 16 states accepting";
     let tree = |kinds: Vec<u8>| {
-        let mut leaf = 0;
+        let mut leaf = PAD;
         let mut label = |kind| {
             leaf += (kind == LEAF) as u8;
             if kind == LEAF {
-                leaf - 1
+                leaf
             } else {
-                0
+                PAD
             }
         };
         kinds.into_iter().flat_map(|kind| [kind, label(kind)]).collect::<Vec<u8>>()
     };
     let mut query = Query::new(1, 16);
     for state in 0..16 {
-        query.add(&[LEAF_RULE, state, 0], 0);
-        query.add(&[LEAF_RULE, state, 1], state);
-        query.add(&[BRANCH_RULE, 0, 0, state, 0], state);
-        query.add(&[BRANCH_RULE, 0, 0, 0, state], state);
+        query.add(&[LEAF_RULE, PAD + 1 + state, 0], 0);
+        query.add(&[LEAF_RULE, PAD + 1 + state, 1], state);
+        query.add(&[BRANCH_RULE, PAD, 0, state, 0], state);
+        query.add(&[BRANCH_RULE, PAD, 0, 0, state], state);
         query.accepting.insert(state);
     }
     for kinds in [left_comb(16), right_comb(16), balanced(16)] {
@@ -346,7 +365,7 @@ fn most_records(limits: &mut Vec<Limit>) {
 
 /// A small tree and any rules, as many as may be or a few more.
 pub fn many_rules(kind: &'static str, random: &mut Random) -> Case {
-    let labels = Labels { leaf: vec![5, 9], branch: vec![9, 63] };
+    let labels = Labels { leaf: vec![PAD, 5, 9], branch: vec![PAD, 9, 63] };
     let kinds = any_shape(random, 4, 50);
     let tree = labelled(random, &kinds, &labels);
     let mut query = Query::new(random.between(3, 4), 16);

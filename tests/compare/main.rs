@@ -31,6 +31,8 @@ mod listings;
 mod made;
 mod making;
 mod numbered;
+mod pad_limits;
+mod pads_by_hand;
 mod program;
 mod queried;
 mod questions;

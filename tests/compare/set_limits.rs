@@ -1,10 +1,12 @@
 //! Questions at the limits of document 01: sets with as many rows or records as may be and one more, sets of no record, each clause
-//! of 'sound' broken once, and on the paper's own set B every number, place, node, row and length around its limits.
+//! of 'sound' broken once, and on the paper's own set B, and on that of a typed tree with pads, every number, place, node, row and length
+//! around its limits.
 
 use crate::asking::{Asking, Question};
 use crate::by_hand;
 use crate::garbage;
 use crate::making::Making;
+use crate::pads_by_hand::TYPED;
 use crate::questions::{one_of_each, Asked};
 use crate::random::Random;
 use crate::sets::{numbers_of, WholeSet, ARITY, NODES, OPEN_PLACES, RECORD, SET, USED};
@@ -37,6 +39,7 @@ pub fn all() -> Vec<Limit> {
     most_records(&mut limits);
     no_record(&mut limits);
     set_b(&mut limits);
+    typed(&mut limits);
     unsound(&mut limits);
     unit_twice(&mut limits);
     limits
@@ -208,8 +211,14 @@ fn set_b(limits: &mut Vec<Limit>) {
     }
 }
 
+fn typed(limits: &mut Vec<Limit>) {
+    let (set, count) = (whole(&TYPED.set()), Some(Ok(TYPED.rows.len() as u128)));
+    limits.push(Limit { kind: "limit: a typed tree, all numbers", set, ask: ask_numbers, count });
+}
+
 const PLACES: [u16; 14] = [0, 1, 2, 3, 4, 5, 15, 16, 17, 255, 256, 257, 32_768, 65_535];
-const NODES_OF_B: [u16; 12] = [0, 1, 2, 3, 4, 5, 6, 4_095, 4_096, 32_768, 65_534, BLANK];
+/// B has five nodes, the typed tree seven.
+const NODES_ASKED: [u16; 13] = [0, 1, 2, 3, 4, 5, 6, 7, 4_095, 4_096, 32_768, 65_534, BLANK];
 
 fn ask_numbers(random: &mut Random, set: &WholeSet) -> Vec<Asked> {
     let mut askings = vec![set.count(random)];
@@ -218,10 +227,10 @@ fn ask_numbers(random: &mut Random, set: &WholeSet) -> Vec<Asked> {
     }
     for place in PLACES {
         askings.push(set.project(random, place));
-        askings.extend(NODES_OF_B.map(|node| set.fix(random, place, node)));
+        askings.extend(NODES_ASKED.map(|node| set.fix(random, place, node)));
     }
-    for first in NODES_OF_B {
-        askings.extend(NODES_OF_B.map(|second| set.member(random, vec![first, second])));
+    for first in NODES_ASKED {
+        askings.extend(NODES_ASKED.map(|second| set.member(random, vec![first, second])));
         askings.extend([vec![first], vec![first; 3], vec![]].map(|row| set.member(random, row)));
     }
     with_rows(set, askings)
