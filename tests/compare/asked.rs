@@ -1,8 +1,10 @@
 //! Judges one question: the library, where the driver ran, against `records` in all that it leaves; and what was left against the
-//! plain list of the set's rows.
+//! plain list of the set's rows, and against the pads of its tree.
 
+use crate::by_pads;
 use crate::by_rows;
 use crate::call::{Call, Left};
+use crate::pads::Pads;
 use crate::questions::Asked;
 use crate::tally::Tally;
 use crate::trials::{Gave, Trial};
@@ -13,6 +15,8 @@ pub struct QuestionTrial {
     /// By which it is shown: --group or --pair, the number, and what else finds it.
     pub label: String,
     pub asked: Asked,
+    /// Of the tree that the set was built from.
+    pub pads: Pads,
     /// The answer to a count, where another way than those here has counted the rows.
     pub counted: Option<u64>,
 }
@@ -39,6 +43,7 @@ impl QuestionTrial {
             same("answer that is promised", left.answer, 0)?;
         }
         self.counted.map_or(Ok(()), |rows| by_rows::check_count(left, rows))?;
+        by_pads::check(&self.asked.asking, left, &self.pads)?;
         self.asked.rows.as_ref().map_or(Ok(()), |rows| by_rows::check(&self.asked.asking, left, rows))
     }
 }

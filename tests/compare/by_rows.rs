@@ -8,7 +8,7 @@ use records::set::{is_sound, Row, UNION};
 use records::Record;
 
 /// Behind the head, the table and the work stand the question's own buffers.
-const OWN: usize = 3;
+pub const OWN: usize = 3;
 
 /// `rows` are those that the asked set lists. A refusal but 9 and 12 is not about the rows.
 pub fn check(asking: &Asking, left: &Left, rows: &[Row]) -> Verdict {

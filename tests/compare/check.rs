@@ -2,6 +2,7 @@
 
 use crate::call::{Buffer, Call, Left};
 use crate::cases::Case;
+use crate::pads::{self, Met};
 use crate::sets::numbers_of;
 use crate::tally::Tally;
 use crate::trials::{Gave, Trial};
@@ -22,6 +23,8 @@ pub struct Seen {
     pub rows: Option<usize>,
     pub records: usize,
     pub entries: usize,
+    /// Where it was answered.
+    pub met: Met,
 }
 
 pub struct StreamTrial {
@@ -40,6 +43,7 @@ impl Trial for StreamTrial {
         let mut seen = Seen { answer: expected.answer.err().unwrap_or(0), ..Seen::default() };
         seen.entries = self.call().entries();
         seen.records = expected.answer.map_or(0, |head| head.used as usize);
+        seen.met = expected.answer.map_or(Met::default(), |_| Met::in_stream(&self.case.input));
         let verdict = match gave {
             Gave::NoDriver => check_rows(&self.case.input, &expected, &expected.lent, &mut seen),
             Gave::Nothing => Err("the driver gave no answer".to_string()),
@@ -67,7 +71,7 @@ impl StreamTrial {
     }
 }
 
-/// `markings` gives the same refusals 1 to 4, and of a small tree the same rows.
+/// `markings` gives the same refusals 1 to 4, and of a small tree the same rows. No record is at a pad, however large the tree is.
 fn check_rows(input: &[u8], expected: &After<Head, Vec<Record>>, table: &[Record], seen: &mut Seen) -> Verdict {
     let said_by_stream = expected.answer.err().filter(|&number| number <= 4);
     let stream = markings::read(input);
@@ -78,6 +82,7 @@ fn check_rows(input: &[u8], expected: &After<Head, Vec<Record>>, table: &[Record
     };
     same("nodes and arity", (stream.nodes(), stream.arity()), (head.nodes as usize, head.arity as usize))?;
     same("sound", is_sound(&head, table), true)?;
+    pads::check_records(input, &table[..head.used as usize])?;
     check_bound(input, &head)?;
     if stream.markings() <= MOST_MARKINGS {
         seen.rows = Some(rows_by_markings(&stream, &head, table)?.len());

@@ -14,6 +14,7 @@ mod arguments;
 mod asked;
 mod asking;
 mod by_hand;
+mod by_pads;
 mod by_rows;
 mod byte_damage;
 mod call;
@@ -32,6 +33,7 @@ mod made;
 mod making;
 mod numbered;
 mod pad_limits;
+mod pads;
 mod pads_by_hand;
 mod program;
 mod queried;
@@ -92,6 +94,7 @@ fn main() -> ExitCode {
     check_listings(&made, list.as_ref(), &mut tally);
     check_typed(&made, tree.as_ref(), &mut tally);
     check_calls(&made, driver.as_ref(), &mut tally);
+    tally.pads_are_enough();
     tally.print(driver.is_some());
     if tally.failed() == 0 {
         ExitCode::SUCCESS
@@ -120,11 +123,11 @@ fn check_calls(made: &Made, driver: Option<&Driver>, tally: &mut Tally) {
         trials.add(Box::new(StreamTrial { case: made.cases.make(number), label: format!("stream {number}") }), tally);
     }
     for group in 0..made.groups.len() {
-        let Group { kind, questions, verdict } = made.groups.make(group);
+        let Group { kind, questions, pads, verdict } = made.groups.make(group);
         tally.own("sets as they were made", &format!("{kind}, group {group}"), verdict);
         for (number, asked) in questions.into_iter().enumerate() {
             let label = format!("group {group} question {number}");
-            trials.add(Box::new(QuestionTrial { kind, label, asked, counted: None }), tally);
+            trials.add(Box::new(QuestionTrial { kind, label, asked, pads: pads.clone(), counted: None }), tally);
         }
     }
     tally.own(real::KIND, "rows.txt", made.real.check_number());

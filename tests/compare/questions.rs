@@ -3,10 +3,12 @@
 use crate::asking::{Asking, Question};
 use crate::fixings::all_orders;
 use crate::numbered::{Kinds, Numbered};
+use crate::pads::Pads;
 use crate::random::Random;
 use crate::set_damage as damage;
 use crate::set_limits;
-use crate::sets::{built, by_hand, Rows, WholeSet, ARITY, NODES, OPEN_PLACES};
+use crate::sets::{any_built, built, by_hand, BuiltSet, Rows, WholeSet, ARITY, NODES, OPEN_PLACES};
+use crate::streams::{some_pads, Stream};
 use crate::verdict::Verdict;
 use records::set::Row;
 use records::BLANK;
@@ -21,6 +23,8 @@ pub struct Asked {
 pub struct Group {
     pub kind: &'static str,
     pub questions: Vec<Asked>,
+    /// Of the tree that the set was built from; none where it was made otherwise.
+    pub pads: Pads,
     /// Of the set itself: what was built lists what all markings give.
     pub verdict: Verdict,
 }
@@ -29,9 +33,10 @@ type Damage = fn(&mut Random, &mut WholeSet);
 
 /// Each kind of random group, with how many there are.
 const RANDOM: &Kinds<Group> = &[
-    (900, |r| on_built("built sets", r, every_question)),
-    (150, |r| on_built("built sets, all rows", r, all_rows)),
-    (200, |r| on_built("built sets, fixed in all orders", r, all_orders)),
+    (900, |r| on_built("built sets", r, any_built, |r, built| every_question(r, &built.set, &built.rows))),
+    (150, |r| on_built("built sets, all rows", r, any_built, |r, built| all_rows(r, &built.set, &built.rows))),
+    (200, |r| on_built("built sets, fixed in all orders", r, any_built, |r, built| all_orders(r, &built.set, &built.rows))),
+    (200, |r| on_built("built sets, asked for pads", r, some_pads, about_pads)),
     (1_200, |r| on_sets_by_hand("sets by hand", r)),
     (600, |r| with_short_buffers("one buffer short", r)),
     (400, |r| damaged("any head", r, damage::any_head)),
@@ -50,17 +55,25 @@ pub type Groups = Numbered<Group, set_limits::Limit>;
 
 /// From other numbers than those that make the streams.
 pub fn all(seed: u64) -> Groups {
-    Numbered::of(!seed, RANDOM, set_limits::all(), |random, limit| Group {
-        kind: limit.kind,
-        questions: (limit.ask)(random, &limit.set),
-        verdict: limit.verdict(),
+    Numbered::of(!seed, RANDOM, set_limits::all(), |random, limit| {
+        let questions = (limit.ask)(random, &limit.set);
+        Group { verdict: limit.verdict(), ..Group::of(limit.kind, questions) }
     })
 }
 
-fn on_built(kind: &'static str, random: &mut Random, ask: fn(&mut Random, &WholeSet, &Rows) -> Vec<Asked>) -> Group {
-    match built(random) {
-        Ok((set, rows)) => Group { kind, questions: ask(random, &set, &rows), verdict: Ok(()) },
-        Err(difference) => Group { kind, questions: Vec::new(), verdict: Err(difference) },
+impl Group {
+    fn of(kind: &'static str, questions: Vec<Asked>) -> Group {
+        Group { kind, questions, pads: Pads::default(), verdict: Ok(()) }
+    }
+}
+
+type AskBuilt = fn(&mut Random, &BuiltSet) -> Vec<Asked>;
+
+fn on_built(kind: &'static str, random: &mut Random, make: fn(&mut Random) -> Stream, ask: AskBuilt) -> Group {
+    let stream = make(random);
+    match built(random, &stream) {
+        Ok(built) => Group { pads: built.pads.clone(), ..Group::of(kind, ask(random, &built)) },
+        Err(difference) => Group { verdict: Err(difference), ..Group::of(kind, Vec::new()) },
     }
 }
 
@@ -68,14 +81,14 @@ fn on_built(kind: &'static str, random: &mut Random, ask: fn(&mut Random, &Whole
 fn on_sets_by_hand(kind: &'static str, random: &mut Random) -> Group {
     let set = by_hand(random);
     let rows = set.rows();
-    Group { kind, questions: every_question(random, &set, &rows), verdict: Ok(()) }
+    Group::of(kind, every_question(random, &set, &rows))
 }
 
 fn damaged(kind: &'static str, random: &mut Random, damage: Damage) -> Group {
     let mut set = any_set(random);
     damage(random, &mut set);
     let rows = set.rows();
-    Group { kind, questions: one_of_each(random, &set, &rows), verdict: Ok(()) }
+    Group::of(kind, one_of_each(random, &set, &rows))
 }
 
 fn with_short_buffers(kind: &'static str, random: &mut Random) -> Group {
@@ -83,7 +96,7 @@ fn with_short_buffers(kind: &'static str, random: &mut Random) -> Group {
     let rows = set.rows();
     let mut questions = one_of_each(random, &set, &rows);
     questions.iter_mut().for_each(|asked| shorten(random, &mut asked.asking));
-    Group { kind, questions, verdict: Ok(()) }
+    Group::of(kind, questions)
 }
 
 /// By hand, or rarely built.
@@ -91,8 +104,9 @@ fn any_set(random: &mut Random) -> WholeSet {
     if random.chance(75) {
         return by_hand(random);
     }
-    match built(random) {
-        Ok((set, _)) => set,
+    let stream = any_built(random);
+    match built(random, &stream) {
+        Ok(built) => built.set,
         Err(_) => by_hand(random),
     }
 }
@@ -183,11 +197,7 @@ pub fn any_node(random: &mut Random, set: &WholeSet, rows: &Rows, place: u16) ->
 
 /// One that is listed, or any; rarely of a wrong length, or with an entry that cannot stand there.
 fn any_row(random: &mut Random, set: &WholeSet, rows: &Rows) -> Row {
-    let listed = rows.as_ref().filter(|rows| !rows.is_empty() && random.chance(50));
-    let mut row: Row = match listed {
-        Some(rows) => rows[random.below(rows.len())].clone(),
-        None => (0..set.head[ARITY].min(8)).map(|at| any_entry(random, set, at)).collect(),
-    };
+    let mut row = likely_row(random, set, rows);
     match random.below(12) {
         0 => row.truncate(row.len().saturating_sub(random.between(1, 2))),
         1 => row.extend([BLANK, 0].iter().take(random.between(1, 2))),
@@ -198,6 +208,13 @@ fn any_row(random: &mut Random, set: &WholeSet, rows: &Rows) -> Row {
         _ => (),
     }
     row
+}
+
+fn likely_row(random: &mut Random, set: &WholeSet, rows: &Rows) -> Row {
+    match rows.as_ref().filter(|rows| !rows.is_empty() && random.chance(50)) {
+        Some(rows) => rows[random.below(rows.len())].clone(),
+        None => (0..set.head[ARITY].min(8)).map(|at| any_entry(random, set, at)).collect(),
+    }
 }
 
 fn any_entry(random: &mut Random, set: &WholeSet, at: u16) -> u16 {
@@ -221,4 +238,23 @@ fn all_rows(random: &mut Random, set: &WholeSet, rows: &Rows) -> Vec<Asked> {
     }
     askings.push(set.row(random, listed.len() as u64));
     askings.into_iter().map(|asking| Asked { asking, rows: rows.clone(), promised: false }).collect()
+}
+
+/// So many pads of a tree are asked for.
+const MOST_PADS: usize = 3;
+
+/// Every place projected, fixed at a pad, and asked for in a row that has a pad there or everywhere. A pad is a node of the tree, so none
+/// of it is refused.
+fn about_pads(random: &mut Random, BuiltSet { set, rows, pads }: &BuiltSet) -> Vec<Asked> {
+    let mut askings: Vec<Asking> = set.open_places().iter().map(|&place| set.project(random, place)).collect();
+    for &pad in pads.iter().take(MOST_PADS) {
+        askings.push(set.member(random, vec![pad; set.head[ARITY] as usize]));
+        for place in set.open_places() {
+            askings.push(set.fix(random, place, pad));
+            let mut row = likely_row(random, set, rows);
+            row[place as usize - 1] = pad;
+            askings.push(set.member(random, row));
+        }
+    }
+    askings.into_iter().map(|asking| Asked { asking, rows: rows.clone(), promised: true }).collect()
 }

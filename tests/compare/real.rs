@@ -5,6 +5,7 @@
 use crate::asked::QuestionTrial;
 use crate::cases::{lend, Case, Room};
 use crate::check::StreamTrial;
+use crate::pads::pads_of;
 use crate::questions::Asked;
 use crate::random::Random;
 use crate::sets::{numbers_of, WholeSet};
@@ -62,7 +63,8 @@ impl RealStreams {
         let head = built.answer.map_err(|refusal| format!("refused {refusal} by records"))?;
         let set = WholeSet { head: numbers_of(&head), table: built.lent };
         let asked = Asked { asking: set.count(&mut self.random(number)), rows: None, promised: true };
-        Ok(QuestionTrial { kind: KIND, label: self.label(number), asked, counted: Some(self.rows(number)) })
+        let (pads, counted) = (pads_of(&case.input), Some(self.rows(number)));
+        Ok(QuestionTrial { kind: KIND, label: self.label(number), asked, pads, counted })
     }
 
     fn random(&self, number: usize) -> Random {

@@ -3,6 +3,7 @@
 
 use crate::check::{rows_by_markings, MOST_MARKINGS};
 use crate::garbage;
+use crate::pads::{pads_of, Pads};
 use crate::random::Random;
 use crate::streams::{any_places_seen, any_valid, Stream};
 use records::set::{is_sound, rows_of, Row, PRODUCT, UNION};
@@ -65,13 +66,23 @@ impl WholeSet {
     }
 }
 
-/// With its rows, which all markings give too; or what they differ in.
-pub fn built(random: &mut Random) -> Result<(WholeSet, Rows), String> {
-    let stream = if random.chance(15) { any_places_seen(random) } else { any_valid(random) };
-    built_of(random, &stream)
+/// With its rows, which all markings give too, and the pads of its tree.
+pub struct BuiltSet {
+    pub set: WholeSet,
+    pub rows: Rows,
+    pub pads: Pads,
 }
 
-fn built_of(random: &mut Random, stream: &Stream) -> Result<(WholeSet, Rows), String> {
+pub fn any_built(random: &mut Random) -> Stream {
+    if random.chance(15) {
+        any_places_seen(random)
+    } else {
+        any_valid(random)
+    }
+}
+
+/// Or what the rows by markings differ in.
+pub fn built(random: &mut Random, stream: &Stream) -> Result<BuiltSet, String> {
     let input = stream.bytes();
     let needs = records::needs(&input).map_err(|number| format!("refused {number}"))?;
     let made = needs.records.ok_or("more than 60,000 records")?;
@@ -82,7 +93,7 @@ fn built_of(random: &mut Random, stream: &Stream) -> Result<(WholeSet, Rows), St
     let set = WholeSet { head: numbers_of(&head), table: built.lent };
     let stream = markings::read(&input).map_err(|number| format!("refused {number}"))?;
     let rows = if stream.markings() <= MOST_MARKINGS { Some(rows_by_markings(&stream, &head, &set.table)?) } else { None };
-    Ok((set, rows.map(Rc::new)))
+    Ok(BuiltSet { set, rows: rows.map(Rc::new), pads: pads_of(&input) })
 }
 
 pub fn by_hand(random: &mut Random) -> WholeSet {

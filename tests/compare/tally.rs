@@ -1,11 +1,13 @@
 //! Counts what was compared, and prints the first differences.
 
 use crate::asked::QuestionTrial;
+use crate::by_pads;
 use crate::cases::Case;
 use crate::check::Seen;
 use crate::conversion::Conversion;
 use crate::listed::Told;
 use crate::listings::{Listing, BUFFER};
+use crate::pads::Met;
 use crate::typed::Typed;
 use crate::verdict::{same, Verdict};
 
@@ -21,6 +23,15 @@ const OF_TYPED: [usize; 2] = [14, 15];
 
 /// One more than the highest refusal.
 const ANSWERS: usize = 16;
+
+const QUESTIONS: usize = 5;
+
+/// At least one in so many answered streams has a pad, a rule for it that is never used, these and rows, a branch of label 0 that a rule
+/// marks.
+const ONE_IN: [usize; 4] = [3, 4, 10, 10];
+
+/// At least so many rows, members, projections and fixings are asked of sets with pads.
+const FEWEST_OF_PADS: usize = 500;
 
 #[derive(Clone, Copy, PartialEq)]
 pub enum What {
@@ -39,6 +50,13 @@ pub enum What {
 type Column = (&'static str, fn(&Kind) -> usize);
 
 const LISTED: &[Column] = &[("listed", |kind| kind.listed), ("rows", |kind| kind.rows)];
+const BUILT: &[Column] = &[
+    ("listed", |kind| kind.listed),
+    ("rows", |kind| kind.rows),
+    ("pads", |kind| kind.met.pads),
+    ("unused", |kind| kind.met.unused_rules),
+    ("branches", |kind| kind.met.marked_branches),
+];
 const BYTES: &[Column] = &[("bytes", |kind| kind.entries)];
 
 /// Of one kind of case.
@@ -57,14 +75,26 @@ struct Kind {
     /// Listings that no buffer of the program holds at once, and those with no row.
     long: usize,
     empty: usize,
+    met: AllMet,
+}
+
+/// How many answered streams have what of label 0.
+#[derive(Default)]
+struct AllMet {
+    pads: usize,
+    unused_rules: usize,
+    /// With pads and rules that are never used, and with rows all the same.
+    rows: usize,
+    marked_branches: usize,
 }
 
 #[derive(Default)]
 pub struct Tally {
     kinds: Vec<Kind>,
     printed: usize,
-    /// By question, in the order of the paper.
-    asked: [usize; 5],
+    /// By question, in the order of the paper: all, and those whose answer could be another if pads stood in rows.
+    asked: [usize; QUESTIONS],
+    asked_of_pads: [usize; QUESTIONS],
 }
 
 impl Tally {
@@ -72,7 +102,8 @@ impl Tally {
     fn kind(&mut self, name: &'static str, what: What) -> &mut Kind {
         let at = self.kinds.iter().position(|kind| kind.name == name && kind.what == what).unwrap_or_else(|| {
             let (answers, listed, rows, records, entries, long, empty) = ([0; ANSWERS], 0, 0, 0, 0, 0, 0);
-            self.kinds.push(Kind { name, what, passed: 0, failed: 0, answers, listed, rows, records, entries, long, empty });
+            let met = AllMet::default();
+            self.kinds.push(Kind { name, what, passed: 0, failed: 0, answers, listed, rows, records, entries, long, empty, met });
             self.kinds.len() - 1
         });
         &mut self.kinds[at]
@@ -103,6 +134,7 @@ impl Tally {
         kind.rows += seen.rows.unwrap_or(0);
         kind.records += seen.records;
         kind.entries += seen.entries;
+        kind.met.add(seen.met, seen.rows);
         let lent = format!("work of {}, table of {}", case.work.len(), case.table.len());
         let rest = format!(" ({lent}, stream {})", words(case.input.iter()));
         self.judge(case.kind, What::Streams, label, &rest, verdict);
@@ -116,6 +148,7 @@ impl Tally {
         kind.entries += told.bytes;
         kind.long += (told.bytes > BUFFER) as usize;
         kind.empty += told.has_no_row as usize;
+        kind.met.add(told.met, told.rows);
         let rest = format!(" ({} bytes in pieces of {}: {})", case.input.len(), case.piece, words(case.input.iter()));
         self.judge(case.kind, What::Listings, &format!("listing {number}"), &rest, verdict);
     }
@@ -135,6 +168,7 @@ impl Tally {
     pub fn question(&mut self, trial: &QuestionTrial, answer: u8, entries: usize, verdict: Verdict) {
         let (asking, rows) = (&trial.asked.asking, &trial.asked.rows);
         self.asked[asking.question.number()] += 1;
+        self.asked_of_pads[asking.question.number()] += by_pads::concerns(asking, answer, &trial.pads) as usize;
         let kind = self.kind(trial.kind, What::Questions);
         kind.answers[answer as usize] += 1;
         kind.entries += entries;
@@ -173,6 +207,22 @@ impl Tally {
         self.own(name, "number", same("enough", many, true));
     }
 
+    /// Pads, and all that the request says of their label, stand in a good part of all that is built, listed and asked.
+    pub fn pads_are_enough(&mut self) {
+        for (what, label) in [(What::Streams, "streams"), (What::Listings, "listings")] {
+            let (met, answered) = (self.all_met(what), self.sum(what, |kind| kind.answers[0]));
+            let enough = [0, 1, 2, 3].map(|part| met[part] * ONE_IN[part] >= answered);
+            self.own("pads", label, same("enough", enough, [true; 4]));
+        }
+        let [_, of_sets @ ..] = self.asked_of_pads;
+        self.own("pads", "questions", same("enough", of_sets.map(|asked| asked >= FEWEST_OF_PADS), [true; 4]));
+    }
+
+    fn all_met(&self, what: What) -> [usize; 4] {
+        let parts: [fn(&AllMet) -> usize; 4] = [|met| met.pads, |met| met.unused_rules, |met| met.rows, |met| met.marked_branches];
+        parts.map(|part| self.sum(what, |kind| part(&kind.met)))
+    }
+
     pub fn failed(&self) -> usize {
         self.kinds.iter().map(|kind| kind.failed).sum()
     }
@@ -182,14 +232,34 @@ impl Tally {
     }
 
     pub fn print(&self, with_driver: bool) {
+        self.print_tables();
+        self.print_sums();
+        self.print_pads();
+        if with_driver {
+            let called = [What::Streams, What::Questions, What::Texts, What::Images, What::RoundTrips];
+            let entries: usize = called.map(|what| self.sum(what, |kind| kind.entries)).iter().sum();
+            println!(
+                "the library compared in all, {entries} entries of its buffers, and the programs in every listing and typed text"
+            );
+        } else {
+            println!("no driver: the independent programs compared with each other, and no library and no program");
+        }
+        let passed: usize = self.kinds.iter().map(|kind| kind.passed).sum();
+        println!("{passed} passed, {} failed", self.failed());
+    }
+
+    fn print_tables(&self) {
         self.print_kinds(What::Own, "checks", &[], &[]);
-        self.print_kinds(What::Streams, "streams", &OF_BUILD, LISTED);
-        self.print_kinds(What::Listings, "listings", &OF_PROGRAM, LISTED);
+        self.print_kinds(What::Streams, "streams", &OF_BUILD, BUILT);
+        self.print_kinds(What::Listings, "listings", &OF_PROGRAM, BUILT);
         self.print_kinds(What::Questions, "questions", &OF_QUESTION, LISTED);
         self.print_kinds(What::Texts, "texts", &OF_CONVERSION, BYTES);
         self.print_kinds(What::Images, "images", &OF_CONVERSION, BYTES);
         self.print_kinds(What::RoundTrips, "there and back", &OF_CONVERSION, BYTES);
         self.print_kinds(What::Typed, "typed texts", &OF_TYPED, BYTES);
+    }
+
+    fn print_sums(&self) {
         let streams = format!("with {} records", self.sum(What::Streams, |kind| kind.records));
         println!("{}", self.summary(What::Streams, "streams", &streams));
         let listings = |of: fn(&Kind) -> usize| self.sum(What::Listings, of);
@@ -212,17 +282,18 @@ impl Tally {
             let (cases, answered) = (self.sum(what, Kind::cases), self.sum(what, |kind| kind.answers[0]));
             println!("{cases} {name}, {answered} answered");
         }
-        if with_driver {
-            let called = [What::Streams, What::Questions, What::Texts, What::Images, What::RoundTrips];
-            let entries: usize = called.map(|what| self.sum(what, |kind| kind.entries)).iter().sum();
-            println!(
-                "the library compared in all, {entries} entries of its buffers, and the programs in every listing and typed text"
-            );
-        } else {
-            println!("no driver: the independent programs compared with each other, and no library and no program");
+    }
+
+    fn print_pads(&self) {
+        for (what, name) in [(What::Streams, "streams"), (What::Listings, "listings")] {
+            let [pads, unused, rows, branches] = self.all_met(what);
+            let of_pads = format!("{pads} have a pad, {unused} a rule too that would mark it, {rows} these and rows");
+            println!("of the {name} answered {of_pads}; {branches} have a branch of label 0 and a rule that marks it");
         }
-        let passed: usize = self.kinds.iter().map(|kind| kind.passed).sum();
-        println!("{passed} passed, {} failed", self.failed());
+        let [_, rows, members, projections, fixings] = self.asked_of_pads;
+        println!(
+            "of sets with pads {rows} rows, {projections} projections, {members} members that name one, {fixings} fixings at one"
+        );
     }
 
     /// How many cases, how many of them answered and held to rows found by another way, and what there is to say of them.
@@ -255,6 +326,15 @@ impl What {
             What::Images => "image",
             _ => "back from",
         }
+    }
+}
+
+impl AllMet {
+    fn add(&mut self, met: Met, rows: Option<usize>) {
+        self.pads += met.pad as usize;
+        self.unused_rules += met.unused_rule as usize;
+        self.rows += (met.unused_rule && rows.map_or(false, |rows| rows > 0)) as usize;
+        self.marked_branches += met.marked_branch as usize;
     }
 }
 
