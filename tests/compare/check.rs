@@ -9,7 +9,7 @@ use crate::trials::{Gave, Trial};
 use crate::verdict::{same, same_entries, Verdict};
 use markings::Stream;
 use records::set::{is_sound, rows_of, Row};
-use records::{After, Head, Record};
+use records::{After, Head, Record, Set};
 
 /// A tree with more markings than this is not tried.
 pub const MOST_MARKINGS: u64 = 30_000;
@@ -43,7 +43,7 @@ impl Trial for StreamTrial {
         let mut seen = Seen { answer: expected.answer.err().unwrap_or(0), ..Seen::default() };
         seen.entries = self.call().entries();
         seen.records = expected.answer.map_or(0, |head| head.used as usize);
-        seen.met = expected.answer.map_or(Met::default(), |_| Met::in_stream(&self.case.input));
+        seen.met = expected.answer.map_or(Met::default(), |head| Met::in_stream(&self.case.input, head.set != Set::Empty));
         let verdict = match gave {
             Gave::NoDriver => check_rows(&self.case.input, &expected, &expected.lent, &mut seen),
             Gave::Nothing => Err("the driver gave no answer".to_string()),

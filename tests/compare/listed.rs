@@ -30,7 +30,7 @@ pub fn judge(case: &Listing, number: usize, program: Option<&Program>, tally: &m
     let expected = records::listing::listing(&case.input, MOST_ROWS).expect("few rows");
     let mut told = Told { answer: refusal_in(&expected).unwrap_or(0), bytes: expected.len(), ..Told::default() };
     told.has_no_row = expected.ends_with("\nrows 0\n");
-    told.met = if told.answer == 0 { Met::in_stream(&case.input) } else { Met::default() };
+    told.met = if told.answer == 0 { Met::in_stream(&case.input, !told.has_no_row) } else { Met::default() };
     let text = program.map_or(Ok(expected.clone().into_bytes()), |program| program.text(&case.input, case.piece));
     let verdict = text.and_then(|text| {
         same_entries("the text's lines:", &lines(&text), &lines(expected.as_bytes()))?;

@@ -25,19 +25,23 @@ pub struct Met {
     pub pad: bool,
     /// A leaf rule for label 0 with a flag above 0, beside a pad: it is never used.
     pub unused_rule: bool,
+    /// And rows all the same.
+    pub unused_rule_and_rows: bool,
     /// A branch of label 0, beside a rule for such branches with a flag above 0.
     pub marked_branch: bool,
 }
 
 impl Met {
-    pub fn in_stream(input: &[u8]) -> Met {
+    pub fn in_stream(input: &[u8], has_rows: bool) -> Met {
         let rules = records::stream::read(input).map_or(Vec::new(), |stream| stream.query.rules);
         let has_rule = |wanted: fn(&Left) -> bool| rules.iter().any(|rule| wanted(&rule.side));
         let pad = tree_of(input).any(|record| record == [LEAF, PAD]);
         let branch = tree_of(input).any(|record| record == [BRANCH, PAD]);
+        let unused_rule = pad && has_rule(|side| matches!(side, Left::Leaf { label: PAD, flag: 1.. }));
         Met {
             pad,
-            unused_rule: pad && has_rule(|side| matches!(side, Left::Leaf { label: PAD, flag: 1.. })),
+            unused_rule,
+            unused_rule_and_rows: unused_rule && has_rows,
             marked_branch: branch && has_rule(|side| matches!(side, Left::Branch { label: PAD, flag: 1.., .. })),
         }
     }

@@ -83,8 +83,7 @@ struct Kind {
 struct AllMet {
     pads: usize,
     unused_rules: usize,
-    /// With pads and rules that are never used, and with rows all the same.
-    rows: usize,
+    unused_rules_and_rows: usize,
     marked_branches: usize,
 }
 
@@ -134,7 +133,7 @@ impl Tally {
         kind.rows += seen.rows.unwrap_or(0);
         kind.records += seen.records;
         kind.entries += seen.entries;
-        kind.met.add(seen.met, seen.rows);
+        kind.met.add(seen.met);
         let lent = format!("work of {}, table of {}", case.work.len(), case.table.len());
         let rest = format!(" ({lent}, stream {})", words(case.input.iter()));
         self.judge(case.kind, What::Streams, label, &rest, verdict);
@@ -148,7 +147,7 @@ impl Tally {
         kind.entries += told.bytes;
         kind.long += (told.bytes > BUFFER) as usize;
         kind.empty += told.has_no_row as usize;
-        kind.met.add(told.met, told.rows);
+        kind.met.add(told.met);
         let rest = format!(" ({} bytes in pieces of {}: {})", case.input.len(), case.piece, words(case.input.iter()));
         self.judge(case.kind, What::Listings, &format!("listing {number}"), &rest, verdict);
     }
@@ -219,7 +218,8 @@ impl Tally {
     }
 
     fn all_met(&self, what: What) -> [usize; 4] {
-        let parts: [fn(&AllMet) -> usize; 4] = [|met| met.pads, |met| met.unused_rules, |met| met.rows, |met| met.marked_branches];
+        let parts: [fn(&AllMet) -> usize; 4] =
+            [|met| met.pads, |met| met.unused_rules, |met| met.unused_rules_and_rows, |met| met.marked_branches];
         parts.map(|part| self.sum(what, |kind| part(&kind.met)))
     }
 
@@ -330,10 +330,10 @@ impl What {
 }
 
 impl AllMet {
-    fn add(&mut self, met: Met, rows: Option<usize>) {
+    fn add(&mut self, met: Met) {
         self.pads += met.pad as usize;
         self.unused_rules += met.unused_rule as usize;
-        self.rows += (met.unused_rule && rows.map_or(false, |rows| rows > 0)) as usize;
+        self.unused_rules_and_rows += met.unused_rule_and_rows as usize;
         self.marked_branches += met.marked_branch as usize;
     }
 }
