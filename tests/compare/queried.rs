@@ -1,12 +1,11 @@
 //! The image of a text with a query behind it, for a build: it is read as a tree, so that refusals 1 and 2 never come.
 
-use crate::cases::{lend, Case, Room, LONGEST_TABLE};
+use crate::cases::{lend, Case, Room};
 use crate::conversion::Conversion;
 use crate::random::Random;
 use crate::streams::{places_seen, Labels, BRANCH, MOST_RULES, PAD};
 use crate::verdict::{same, Verdict};
-use records::set::count_of;
-use records::Record;
+use records::set::{count_of, MOST_RECORDS};
 
 pub const KIND: &str = "images of texts, with a query";
 
@@ -50,7 +49,7 @@ fn queried(random: &mut Random, image: &[u8]) -> Queried {
     let query = places_seen(arity, 1 << arity, &Labels { leaf: vec![PAD], branch: labels }, branches);
     let input = [image, &query.shuffled(random).concat()].concat();
     let rows = if branches { (written.len() as u128).pow(arity as u32) } else { 0 };
-    let case = lend(random, KIND, input, Room::Enough, LONGEST_TABLE);
+    let case = lend(random, KIND, input, Room::Enough, MOST_RECORDS);
     Queried { case, nodes: image.len() / 2, rows: Some(rows).filter(|_| has_all) }
 }
 
@@ -58,17 +57,13 @@ impl Queried {
     /// By `records` and by `markings`, to which the library's build is held in all: nothing is wrong with the tree, nor with the query,
     /// of so many bytes every two are a node, and the rows are as many as they must be.
     pub fn check(&self) -> Verdict {
-        let needs = records::needs(&self.case.input).map_err(|number| format!("refused {number} by records"))?;
         same("nodes by markings", markings::read(&self.case.input).map(|stream| stream.nodes()), Ok(self.nodes))?;
-        match (self.rows, needs.records) {
-            (Some(rows), Some(made)) => self.check_count(rows, needs.work, made),
-            _ => Ok(()),
+        let built = records::build(&self.case.input, &self.case.work, &self.case.table);
+        match (built.answer, self.rows) {
+            (Ok(head), Some(rows)) => same("rows by records and as known", count_of(&head, &built.lent), rows),
+            // but for a tree that makes more records than may be
+            (Ok(_), None) | (Err(6), _) => Ok(()),
+            (Err(number), _) => Err(format!("refused {number} by records")),
         }
-    }
-
-    fn check_count(&self, rows: u128, work: usize, made: usize) -> Verdict {
-        let built = records::build(&self.case.input, &vec![0; work], &vec![Record::default(); made]);
-        let count = built.answer.map(|head| count_of(&head, &built.lent));
-        same("rows by records and as known", count, Ok(rows))
     }
 }
