@@ -1,5 +1,5 @@
-//! Cases at the limits of request 2026-02: rules for pads that are never used are read, tested and counted like others; of a pad no record
-//! is made and no row told, whatever flag its rules have.
+//! Cases at the limits of request 2026-02: rules for pads that are never used are read, tested and counted like others; of a pad no
+//! record is made and no row told, whatever flag its rules have.
 
 use crate::cases::Room;
 use crate::limits::{add, add_enough, different_rules, Limit, TREE_A};

@@ -1,5 +1,5 @@
-//! Request 2026-02, 'Pads turn up in rows', sentence by sentence: streams whose records and rows were worked out from it and from document
-//! 01 by hand, streams that are refused as before, and questions on the set of a typed tree.
+//! Request 2026-02, 'Pads turn up in rows', sentence by sentence: streams whose records and rows were worked out from it and from
+//! document 01 by hand, streams that are refused as before, and questions on the set of a typed tree.
 
 use crate::by_hand::{ask, fix, Worked};
 use crate::tally::Tally;
