@@ -2,7 +2,8 @@
 !
 !     typed LABEL TEXT
 !
-! Finds the nodes of LABEL, 0 to 63, in the tree that TEXT is the bracketed text of, as 9(5 6).
+! Finds the written nodes of LABEL, 0 to 63, in the tree that TEXT is the bracketed text of, as 9(5 6).
+! The tree's pads have label 0 too, and stand in no row.
 program typed
   use, intrinsic :: iso_c_binding, only: c_int8_t, c_int16_t, c_int64_t
   use, intrinsic :: iso_fortran_env, only: error_unit
