@@ -1,8 +1,8 @@
 #!/usr/bin/env bash
 # Edits of `paper` that its worked cases let pass and the theorems of `laws`, or of `writings`, must refuse. `rt must-fail` tries an edit
 # on its own crate only, so these are tried here: in a copy of the crates those below must still be proved, and the one named must not.
-# An edit file has the lines of a must-fail edit, `in: CRATE` where that is not `laws`, and `at: NAME`, the theorem or lemma where the
-# refusal must stand first.
+# An edit file has the lines of a must-fail edit, `old:` and `new:` once for each line of the text, `in: CRATE` where that is not `laws`,
+# and `at: NAME`, the theorem or lemma where the refusal must stand first.
 set -u
 cd "$(dirname "$0")/.." || exit 2
 passed=0 failed=0

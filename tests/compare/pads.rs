@@ -1,9 +1,9 @@
 //! Pads, the leaves of label 0 that stand in no row (request 2026-02): where they are in a stream's tree, what a stream has of their
-//! label, and that no record names one. All of it by the tree's own bytes, and so by neither of the programs that leave pads out.
+//! label, and that no record is at one. Where they are is told by the tree's own bytes, and so by neither of the programs that leave
+//! pads out; the rules beside them are those that `records` reads.
 
 use crate::streams::{BRANCH, LEAF, PAD};
 use crate::verdict::{same, Verdict};
-use records::set::SINGLE;
 use records::stream::Left;
 use records::Record;
 use std::rc::Rc;
@@ -47,9 +47,9 @@ impl Met {
     }
 }
 
-/// A record that names a node is a single, and none is made from a rule for pads: so no single is at one, under the root or not.
+/// A rule that would mark a pad makes no record, and its rule with flag 0 makes none either: so no record is at one, under the root or
+/// not.
 pub fn check_records(input: &[u8], made: &[Record]) -> Verdict {
     let pads = pads_of(input);
-    let at_pad = |record: &&Record| record.kind == SINGLE && pads.contains(&record.node);
-    same("a single at a pad", made.iter().find(at_pad), None)
+    same("a record at a pad", made.iter().find(|record| pads.contains(&record.node)), None)
 }

@@ -22,8 +22,7 @@ const MOST_BYTES: usize = 200;
 pub struct Queried {
     pub case: Case,
     nodes: usize,
-    /// None where some written nodes have labels that the query has no rules for.
-    rows: Option<u128>,
+    rows: u128,
 }
 
 /// Of the text with this number, if it is accepted and one of those that are built.
@@ -35,8 +34,8 @@ pub fn of_text(text: &Conversion, number: usize) -> Option<Queried> {
     Some(queried(&mut Random::of(number as u64, text.bytes), &image))
 }
 
-/// Every row of written nodes is accepted, or no branch may be marked and there is none; but for a tree with too many labels. The query
-/// would mark the pads too: these rules have to be passed over.
+/// Every row of written nodes is accepted; or none is, where no branch may be marked, or where the tree has too many labels, since a
+/// branch that has no rule ends every run. The query would mark the pads too: these rules have to be passed over.
 fn queried(random: &mut Random, image: &[u8]) -> Queried {
     let written: Vec<u8> = image.chunks(2).filter(|record| record[0] == BRANCH).map(|record| record[1]).collect();
     let mut labels = written.clone();
@@ -48,9 +47,9 @@ fn queried(random: &mut Random, image: &[u8]) -> Queried {
     let branches = random.chance(85);
     let query = places_seen(arity, 1 << arity, &Labels { leaf: vec![PAD], branch: labels }, branches);
     let input = [image, &query.shuffled(random).concat()].concat();
-    let rows = if branches { (written.len() as u128).pow(arity as u32) } else { 0 };
+    let rows = if branches && has_all { (written.len() as u128).pow(arity as u32) } else { 0 };
     let case = lend(random, KIND, input, Room::Enough, MOST_RECORDS);
-    Queried { case, nodes: image.len() / 2, rows: Some(rows).filter(|_| has_all) }
+    Queried { case, nodes: image.len() / 2, rows }
 }
 
 impl Queried {
@@ -59,11 +58,11 @@ impl Queried {
     pub fn check(&self) -> Verdict {
         same("nodes by markings", markings::read(&self.case.input).map(|stream| stream.nodes()), Ok(self.nodes))?;
         let built = records::build(&self.case.input, &self.case.work, &self.case.table);
-        match (built.answer, self.rows) {
-            (Ok(head), Some(rows)) => same("rows by records and as known", count_of(&head, &built.lent), rows),
-            // but for a tree that makes more records than may be
-            (Ok(_), None) | (Err(6), _) => Ok(()),
-            (Err(number), _) => Err(format!("refused {number} by records")),
+        match built.answer {
+            Ok(head) => same("rows by records and as known", count_of(&head, &built.lent), self.rows),
+            // a tree that makes more records than may be
+            Err(6) => Ok(()),
+            Err(number) => Err(format!("refused {number} by records")),
         }
     }
 }

@@ -230,7 +230,7 @@ fn grown_of(random: &mut Random, labels: &Labels) -> Stream {
     Stream { tree, query: query.shuffled(random) }
 }
 
-/// Mostly one that may stand in a row, so that there are rows; else any, so that there are rules that would name a pad.
+/// Mostly one that may stand in a row, so that there are rows; else any, so that there are rules that would mark a pad.
 fn any_node(random: &mut Random, tree: &[[u8; 2]]) -> usize {
     let others: Vec<usize> = (0..tree.len()).filter(|&node| tree[node] != [LEAF, PAD]).collect();
     if others.is_empty() || random.chance(25) {
@@ -300,7 +300,7 @@ fn add_branch_rules(random: &mut Random, query: &mut Query, labels: &Labels, unm
 }
 
 /// The states are the places seen so far, as a flag: every row that names no pad is accepted, or every such row of leaves if no branch
-/// may be marked. Pads have the rules of other leaves, those that would name them too.
+/// may be marked. Pads have the rules of other leaves, those that would mark them too.
 pub fn places_seen(arity: usize, states: usize, labels: &Labels, branches: bool) -> Query {
     let mut query = Query::new(arity, states);
     let flags = query.flags();

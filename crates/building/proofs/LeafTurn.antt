@@ -100,8 +100,8 @@ module _ (input : List ℕ) (t : State) (work batch : List ℕ) (base : List Rec
   fewer = fewer-left input t (s .constants) (s .node .here) (s .node .earlier) (s .node .stack) (made, s .slots) (s .rule) h next found
 
   -- whether the leaf can stand there, by the byte that the code has
-  stands-here : {c : Bool} → c ≡ canStand (getD input (t .at + 1) 0) flag → (d : Bool) → c ≡ d → canStand label flag ≡ d
-  stands-here e d c-is = ap (λ a. canStand a flag) (sym (label-here input t (s .constants) (s .node))) ∙ sym e ∙ c-is
+  can-stand-here : {c : Bool} → c ≡ canStand (getD input (t .at + 1) 0) flag → (d : Bool) → c ≡ d → canStand label flag ≡ d
+  can-stand-here e d c-is = ap (λ a. canStand a flag) (sym (label-here input t (s .constants) (s .node))) ∙ sym e ∙ c-is
 
   -- it is used
   module _ (start : length base ≡ t .from) (count : ℕ) (work′ batch′ : List ℕ) (long : length work′ ≡ length work) where
@@ -129,7 +129,7 @@ module _ (input : List ℕ) (t : State) (work batch : List ℕ) (base : List Rec
     pub leaf-onward : {c : Bool} → c ≡ canStand (getD input (t .at + 1) 0) flag → c ≡ true → {to : ℕ} → to ≡ leafShelf input t
         → Leaves (t .node) flag to (t .from) (t .count) batch work count batch′ work′ → Onward input t work base count next work′ batch′
     leaf-onward asked stands same e =
-        leaf-stepped (stands-here asked true stands)
+        leaf-stepped (can-stand-here asked true stands)
         (subst (λ x. Leaves (t .node) flag x (t .from) (t .count) batch work count batch′ work′) same e)
 
   -- it is never used: all stays
@@ -141,7 +141,7 @@ module _ (input : List ℕ) (t : State) (work batch : List ℕ) (base : List Rec
       constants = constants-stay input t (more t (t .count) next) refl refl refl refl refl refl (s .constants);
       node = s .node;
       slots = s .slots;
-      rule = onward (rw (eq-eqb label label refl, stands-here asked false stands-not));
+      rule = onward (rw (eq-eqb label label refl, can-stand-here asked false stands-not));
       frames = record { frames = s .frames .frames; low = s .frames .low; room = s .frames .room };
       used = s .used;
     };

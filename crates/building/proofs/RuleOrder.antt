@@ -20,7 +20,7 @@ module _ {S E : Type 0} (A : Sets S E) (label n : ℕ) where
   other-label : (z : S × Slots E) (a b q : ℕ) → (a ≡ label → ⊥) → leafStep A label n z (leafRule a b q) ≡ z
   other-label z a b q other = rw (ne-eqb label a (λ e. other (sym e)))
 
-  -- nor does a record that is none
+  -- nor does a record that is no leaf rule with this label
   pub leaf-skip : (z : S × Slots E) (r : StreamRecord) (rs : List StreamRecord) → (LeafRuleFor label r → ⊥)
       → through (leafStep A label n) z (rulesOf (r ∷ rs)) ≡ through (leafStep A label n) z (rulesOf rs)
   leaf-skip z r rs other = go (eqb (r .kind) leafRuleKind) (eqb (r .kind) branchRuleKind) refl

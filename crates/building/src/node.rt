@@ -52,7 +52,7 @@ pub(crate) fn leaf_rules(
     let mut rule = t.rule;
     while rule < input.len() && count <= WAITING_RECORDS {
         let flag = input[rule + 2] as usize;
-        // A rule that would let a pad stand in a row is passed over.
+        // A rule that would mark a pad is passed over: no row names one.
         if can_stand(label, flag) {
             // The slot of this rule is in the node's own frame, the one on top.
             let to = shelf_at(t.arity, t.states, t.top, input[rule + 3] as usize);

@@ -1,7 +1,6 @@
 // One rule at one node: the records that it makes go into a batch, the sets into the shelf of the rule's
-// state in the node's frame. First whether a leaf rule is used, and a leaf rule; then a branch rule: one
-// split, the splits with one left flag, and all of them. A split is a flag b1 for the left child and a flag
-// b2 for the right one.
+// state in the node's frame. First a leaf rule and whether it is used; then a branch rule: one split, a flag
+// b1 for the left child and b2 for the right one, the splits with one left flag, and all of them.
 ghost use mathlib.Core.Path.{_≡_};
 ghost use Prim.Native.Nat.{_+_, _*_, _≤_, _<_};
 ghost use lib.Bits.{bitAnd};

@@ -12,7 +12,7 @@ use Rattle.paper.specs.Lists.{through}
 use Rattle.paper.specs.Query.{Query, Rule, branchRule, leafRule}
 use Rattle.paper.specs.Row.{noPlace}
 use Rattle.paper.specs.Tree.{Tree, branch, leaf, padLabel}
-use Rattle.laws.specs.PadRules.{namesPad, usedRules, withUsedRules}
+use Rattle.laws.specs.PadRules.{marksPad, usedRules, withUsedRules}
 use Rattle.laws.proofs.Lists.{both-true}
 
 -- ---- a leaf
@@ -22,7 +22,7 @@ not-taken false d x y h = refl
 
 module _ {S E : Type 0} (A : Sets S E) (label n : ℕ) where
   -- such a rule changes nothing: where it matches, the leaf is a pad
-  rule-unused : (z : S × Slots E) (a b q : ℕ) → namesPad (leafRule a b q) ≡ true → leafStep A label n z (leafRule a b q) ≡ z
+  rule-unused : (z : S × Slots E) (a b q : ℕ) → marksPad (leafRule a b q) ≡ true → leafStep A label n z (leafRule a b q) ≡ z
   rule-unused z a b q e = not-taken (eqb label a) (canStand label b) _ z pad
     where
       pad : eqb label a ≡ true → canStand label b ≡ false
@@ -34,9 +34,9 @@ module _ {S E : Type 0} (A : Sets S E) (label n : ℕ) where
   leaf-same : (rules : List Rule) (z : S × Slots E) → through (leafStep A label n) z (usedRules rules) ≡ through (leafStep A label n) z rules
   leaf-same [] z = refl
   leaf-same (branchRule a b p q t ∷ rs) z = leaf-same rs z
-  leaf-same (leafRule a b q ∷ rs) z = go (namesPad (leafRule a b q)) refl (leaf-same rs)
+  leaf-same (leafRule a b q ∷ rs) z = go (marksPad (leafRule a b q)) refl (leaf-same rs)
     where
-      go : (c : Bool) → namesPad (leafRule a b q) ≡ c
+      go : (c : Bool) → marksPad (leafRule a b q) ≡ c
           → ((y : S × Slots E) → through (leafStep A label n) y (usedRules rs) ≡ through (leafStep A label n) y rs)
           → through (leafStep A label n) z (cond c (usedRules rs) (leafRule a b q ∷ usedRules rs))
           ≡ through (leafStep A label n) (leafStep A label n z (leafRule a b q)) rs
@@ -47,7 +47,7 @@ module _ {S E : Type 0} (A : Sets S E) (label n : ℕ) where
 splits-same : (arity label : ℕ) (rules : List Rule) → splits arity (usedRules rules) label ≡ splits arity rules label
 splits-same arity label [] = refl
 splits-same arity label (branchRule a b p q t ∷ rs) = ap (λ more. splitsBy arity label (branchRule a b p q t) ++ more) (splits-same arity label rs)
-splits-same arity label (leafRule a b q ∷ rs) = go (namesPad (leafRule a b q)) (splits-same arity label rs)
+splits-same arity label (leafRule a b q ∷ rs) = go (marksPad (leafRule a b q)) (splits-same arity label rs)
   where
     go : (c : Bool) → splits arity (usedRules rs) label ≡ splits arity rs label
         → splits arity (cond c (usedRules rs) (leafRule a b q ∷ usedRules rs)) label ≡ splits arity rs label

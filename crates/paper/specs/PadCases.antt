@@ -1,5 +1,5 @@
--- Request 2026-02, worked cases by hand, beside P1 to P10 and in their words: pads that a rule would have named, label 0 on a branch, a
--- tree that is one pad. First the trees and the queries, then the cases as one list with one proof.
+-- Request 2026-02, worked cases by hand, beside P1 to P10 and in their words: pads that a rule would mark, label 0 on a branch, a tree
+-- that is one pad. First the trees and the queries, then the cases as one list with one proof.
 use mathlib.Core.Path.{_≡_, refl}
 use mathlib.Core.Bool.{true, false}
 use mathlib.Core.List.{List, [], _∷_, _++_, map}
@@ -15,21 +15,21 @@ abbrev pub typed : WrittenTree
 typed = record { label = 9; children = tree 5 nil (tree 6 nil nil) }
 
 -- for a written label: the node itself, nothing, a node among the children or what is in them, a node behind
-abbrev pub anyOf : ℕ → List ℕ
-anyOf label =
+abbrev pub branchRulesFor : ℕ → List ℕ
+branchRulesFor label =
     18 ∷ label ∷ 1 ∷ 0 ∷ 0 ∷ 1
     ∷ 18 ∷ label ∷ 0 ∷ 0 ∷ 0 ∷ 0
     ∷ 18 ∷ label ∷ 0 ∷ 1 ∷ 0 ∷ 1
     ∷ 18 ∷ label ∷ 0 ∷ 0 ∷ 1 ∷ 1 ∷ []
 
--- one node, whichever, with these branch rules. The second leaf rule would name the pads
+-- one node, whichever, with these branch rules. The second leaf rule would mark the pads
 abbrev pub anyNode : List ℕ → List ℕ
 anyNode branches = (16 ∷ 1 ∷ 2 ∷ 17 ∷ 0 ∷ 0 ∷ 0 ∷ 17 ∷ 0 ∷ 1 ∷ 1 ∷ []) ++ (branches ++ (19 ∷ 1 ∷ []))
 
 -- document 01 alone had listed all seven nodes. Three subtrees are unjoined at the most. Records: singles of 3 and 4 and their union, the
 -- single of 6 and the union of both
 abbrev pub setTyped : Built
-setTyped = build (imageBytes typed ++ anyNode (anyOf 5 ++ (anyOf 6 ++ anyOf 9))) 16 5
+setTyped = build (imageBytes typed ++ anyNode (branchRulesFor 5 ++ (branchRulesFor 6 ++ branchRulesFor 9))) 16 5
 
 -- ---- `0`: pads 0 and 1, branch 0 as node 2
 abbrev pub typedZero : WrittenTree
@@ -75,10 +75,10 @@ cases =
     ∷ (recordsAndRows (build padBeside 36 1), makes (answer (1, (2 ∷ 2 ∷ []) ∷ [])))
     -- a branch of label 0 is no pad, also where it is typed and has pads below it
     ∷ (recordsAndRows (build zeroBranch 12 4), makes (answer (4, (2 ∷ []) ∷ (0 ∷ []) ∷ [])))
-    ∷ (recordsAndRows (build (imageBytes typedZero ++ anyNode (anyOf 0)) 12 1), makes (answer (1, (2 ∷ []) ∷ [])))
+    ∷ (recordsAndRows (build (imageBytes typedZero ++ anyNode (branchRulesFor 0)) 12 1), makes (answer (1, (2 ∷ []) ∷ [])))
     -- one pad: nothing can stand in a row, whichever rule it has and whichever state is accepting
     ∷ (recordsAndRows (build (onePad (17 ∷ 0 ∷ 1 ∷ 1 ∷ 19 ∷ 1 ∷ [])) 8 0), makes (answer (0, [])))
-    ∷ (recordsAndRows (build (onePad (17 ∷ 0 ∷ 0 ∷ 1 ∷ 17 ∷ 0 ∷ 1 ∷ 1 ∷ 19 ∷ 1 ∷ [])) 8 0), makes (answer (0, [])))
+    ∷ (recordsAndRows (build (onePad (17 ∷ 0 ∷ 0 ∷ 0 ∷ 17 ∷ 0 ∷ 1 ∷ 1 ∷ 19 ∷ 0 ∷ 19 ∷ 1 ∷ [])) 8 0), makes (answer (0, [])))
     -- such a rule is tested as any other: a flag of 2 at arity 1, a state of 2, its left side twice
     ∷ (recordsAndRows (build (onePad (17 ∷ 0 ∷ 2 ∷ 1 ∷ [])) 8 0), makes (refused 3))
     ∷ (recordsAndRows (build (onePad (17 ∷ 0 ∷ 1 ∷ 2 ∷ [])) 8 0), makes (refused 3))
