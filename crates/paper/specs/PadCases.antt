@@ -4,15 +4,13 @@ use mathlib.Core.Path.{_≡_, refl}
 use mathlib.Core.Bool.{true, false}
 use mathlib.Core.List.{List, [], _∷_, _++_, map}
 use Prim.Native.Nat.{ℕ}
-use Rattle.paper.specs.WrittenTree.{WrittenTree, nil, tree}
-use Rattle.paper.specs.Image.{imageBytes}
 use Rattle.paper.specs.Records.{empty}
 use Rattle.paper.specs.Refusals.{refused, answer, build, count, member, project, fix}
 use Rattle.paper.specs.Cases.{Built, Shown, makes, holds, counts, says, marks, on, recordsAndRows, setIn}
 
--- ---- a typed tree, `9(5 6)`: pads 0, 1, 2, branch 6 as node 3, branch 5 as node 4, pad 5, branch 9 as node 6
-abbrev pub typed : WrittenTree
-typed = record { label = 9; children = tree 5 nil (tree 6 nil nil) }
+-- ---- the image of `9(5 6)`: pads 0, 1, 2, branch 6 as node 3, branch 5 as node 4, pad 5, branch 9 as node 6
+abbrev pub typed : List ℕ
+typed = 1 ∷ 0 ∷ 1 ∷ 0 ∷ 1 ∷ 0 ∷ 2 ∷ 6 ∷ 2 ∷ 5 ∷ 1 ∷ 0 ∷ 2 ∷ 9 ∷ []
 
 -- for a written label: the node itself, nothing, a node among the children or what is in them, a node behind
 abbrev pub branchRulesFor : ℕ → List ℕ
@@ -29,13 +27,13 @@ anyNode branches = (16 ∷ 1 ∷ 2 ∷ 17 ∷ 0 ∷ 0 ∷ 0 ∷ 17 ∷ 0 ∷ 1 �
 -- document 01 alone had listed all seven nodes. Three subtrees are unjoined at the most. Records: singles of 3 and 4 and their union, the
 -- single of 6 and the union of both
 abbrev pub setTyped : Built
-setTyped = build (imageBytes typed ++ anyNode (branchRulesFor 5 ++ (branchRulesFor 6 ++ branchRulesFor 9))) 16 5
+setTyped = build (typed ++ anyNode (branchRulesFor 5 ++ (branchRulesFor 6 ++ branchRulesFor 9))) 16 5
 
--- ---- `0`: pads 0 and 1, branch 0 as node 2
-abbrev pub typedZero : WrittenTree
-typedZero = record { label = 0; children = nil }
+-- ---- the image of `0`: pads 0 and 1, branch 0 as node 2
+abbrev pub typedZero : List ℕ
+typedZero = 1 ∷ 0 ∷ 1 ∷ 0 ∷ 2 ∷ 0 ∷ []
 
--- ---- `9`: pads 0 and 1, branch 9 as node 2. The root at place 1, and at place 2 its left pad or the root itself
+-- ---- the image of `9`: pads 0 and 1, branch 9 as node 2. The root at place 1, and at place 2 its left pad or the root itself
 abbrev pub padBeside : List ℕ
 padBeside =
     1 ∷ 0 ∷ 1 ∷ 0 ∷ 2 ∷ 9
@@ -75,7 +73,7 @@ cases =
     ∷ (recordsAndRows (build padBeside 36 1), makes (answer (1, (2 ∷ 2 ∷ []) ∷ [])))
     -- a branch of label 0 is no pad, also where it is typed and has pads below it
     ∷ (recordsAndRows (build zeroBranch 12 4), makes (answer (4, (2 ∷ []) ∷ (0 ∷ []) ∷ [])))
-    ∷ (recordsAndRows (build (imageBytes typedZero ++ anyNode (branchRulesFor 0)) 12 1), makes (answer (1, (2 ∷ []) ∷ [])))
+    ∷ (recordsAndRows (build (typedZero ++ anyNode (branchRulesFor 0)) 12 1), makes (answer (1, (2 ∷ []) ∷ [])))
     -- one pad: nothing can stand in a row, whichever rule it has and whichever state is accepting
     ∷ (recordsAndRows (build (onePad (17 ∷ 0 ∷ 1 ∷ 1 ∷ 19 ∷ 1 ∷ [])) 8 0), makes (answer (0, [])))
     ∷ (recordsAndRows (build (onePad (17 ∷ 0 ∷ 0 ∷ 0 ∷ 17 ∷ 0 ∷ 1 ∷ 1 ∷ 19 ∷ 0 ∷ 19 ∷ 1 ∷ [])) 8 0), makes (answer (0, [])))
