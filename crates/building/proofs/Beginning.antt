@@ -1,13 +1,14 @@
 -- The beginning of a build. First that a refusal of the tree, of the query or of the work is the build's, with a number up to 5; then
 -- that the building comes to the first node.
 use mathlib.Core.Bool.{Bool, cond, false, true}
-use mathlib.Core.List.{List, [], _++_, _∷_}
-use mathlib.Core.Path.{_∙_, _≡_, ap, ap₂, refl, subst, sym}
-use Prim.Native.Nat.{_*_, _+_, _<_, _≤_, min, ℕ}
+use mathlib.Core.List.{List, [], _++_, _∷_, append-nil}
+use mathlib.Core.Path.{_∙_, _≡_, ap, ap₂, refl, subst, subst₂, sym}
+use Prim.Native.Nat.{_*_, _+_, _-_, _<_, _^_, _≤_, min, ℕ}
 use native.Mathlib.Nat.{zero-mul}
 use native.Mathlib.Omega.{arith}
 use borrow.Author.Tests.{lt-leb}
-use lib.ListN.{drop, length}
+use lib.ListN.{drop, length, length-drop, take}
+use lib.Seq.{drop-length}
 use Rattle.paper.specs.Refusals.{Test, answer, atEach, build, headFrom, madeFrom, nodesIn, queryIn, queryPart, queryTests, refused}
 use Rattle.paper.specs.Refusals.{treePart, treeTests, unless, workFor}
 use Rattle.paper.specs.Stream.{StreamRecord, queryRecords, recordsOf, treeRecords}
@@ -16,7 +17,7 @@ use Rattle.laws.proofs.ReadTree.{tree-read}
 use Rattle.laws.proofs.Replies.{Passes, answered, refused-inj, refused-not-answer, unless-append}
 use Rattle.stream.specs.declared.head.QueryFacts.{QueryFacts}
 use Rattle.stream.specs.declared.tree.TreeFacts.{TreeFacts}
-use Rattle.stream.specs.RuleLists.{Listable, Lists, RuleLists}
+use Rattle.stream.specs.RuleLists.{Listable, Lists, RuleLists, listNumbers}
 use Rattle.stream.specs.Reading.{queryFacts, queryReply, treeFacts, treeReply}
 use Rattle.stream.proofs.AfterTree.{facts-after-tree, reply-after-tree}
 use Rattle.stream.proofs.Room.{query-listable}
@@ -24,10 +25,12 @@ use Rattle.stream.proofs.EachRecord.{refused-append}
 use Rattle.building.specs.Bounds.{mostNodes, mostPlaces, mostRecords, mostStates}
 use Rattle.building.specs.Frames.{width}
 use Rattle.building.specs.Coming.{Come, Coming}
-use Rattle.building.specs.Listed.{Listed, listNumbers}
+use Rattle.building.specs.Listed.{Listed}
+use Rattle.building.specs.Splits.{Noted}
 use Rattle.building.specs.Standing.{AtNode, InWork, State}
 use Rattle.building.specs.Start.{Started}
 use Rattle.building.proofs.Frames.{frames-at-most, work-frames}
+use Rattle.building.proofs.ListedRules.{part-behind, rules-stay}
 use Rattle.building.proofs.Present.{most-nodes}
 use Rattle.building.proofs.ReadInput.{few-states, query-part-passes, small-arity, tree-passes}
 
@@ -163,12 +166,31 @@ module _ (input : List ℕ) (tree : TreeFacts) (query : QueryFacts) (f : ReadFac
       ap₂ (λ m n. (1 + m) * n) (f .most) (e ∙ ap₂ width (f .arity) (f .states))
       ∙ sym (work-frames (mostUnjoined (treeRecords (recordsOf input))) (queryIn input))
 
-  -- the rules are listed, in lists that are long enough
-  pub rules-listed : (lists : List ℕ) {lists′ : List ℕ} → Lists input (query .rules) lists lists′ → listNumbers ≤ length lists → Listed input lists′
-  rules-listed lists {lists′} told long =
+  -- the query is short enough for lists of its rules
+  listable : Listable input (2 * nodesIn input + 3)
+  listable =
       let at : ℕ = 2 * nodesIn input in
-      let few = query-listable input at (queryFacts input at) (sym (f .query-reply)) (omega (arith, tree-read (treeRecords (recordsOf input)) passes .2)) in
-      subst (λ n. RuleLists input n lists′) (f .rules) (told .listed (subst (Listable input) (sym (f .rules)) few) long)
+      query-listable input at (queryFacts input at) (sym (f .query-reply)) (omega (arith, tree-read (treeRecords (recordsOf input)) passes .2))
+
+  -- the rules are listed, in lists that are long enough
+  pub rules-listed : (lists : List ℕ) {lists′ : List ℕ} → Lists input (query .rules) lists lists′ → listNumbers ≤ length lists
+      → RuleLists input (2 * nodesIn input + 3) lists′
+  rules-listed lists {lists′} told long =
+      subst (λ n. RuleLists input n lists′) (f .rules) (told .listed (subst (Listable input) (sym (f .rules)) listable) long)
+
+  -- and the notes for their flags stand behind them
+  pub lookup-listed : (lists notes : List ℕ) {size : ℕ} → RuleLists input (2 * nodesIn input + 3) lists → listNumbers ≤ length lists
+      → size ≡ 2 ^ query .arity → Noted size notes
+      → Listed input (take listNumbers lists ++ (notes ++ drop (length lists - listNumbers) (drop listNumbers lists)))
+  lookup-listed lists notes rules long e noted =
+      let behind : List ℕ = drop (length lists - listNumbers) (drop listNumbers lists) in
+      let none : behind ≡ [] = ap (λ n. drop n (drop listNumbers lists)) (sym (length-drop listNumbers lists)) ∙ drop-length (drop listNumbers lists) in
+      record {
+        rules = rules-stay lists (notes ++ behind) long input (2 * nodesIn input + 3) listable rules;
+        splits =
+            subst₂ Noted (e ∙ ap (λ n. 2 ^ n) (f .arity))
+            (sym (part-behind lists (notes ++ behind) long ∙ ap (λ l. notes ++ l) none ∙ append-nil notes)) noted;
+      }
 
   -- too short
   pub short-work : (work : List ℕ) (tableLength : ℕ) {n : ℕ} → n ≡ width (query .arity) (query .states) → length work < (1 + tree .most) * n

@@ -1,10 +1,12 @@
 -- The lemmas that the proofs of the functions cite, each file behind those that it cites. Last what is shown of `build` itself.
 pub mod Written
 pub mod Marks
+pub mod FreeMarks
 pub mod Slots
 pub mod Making
 pub mod Uniting
 pub mod Running
+pub mod TripleTable
 pub mod Turns
 pub mod NodeOrder
 pub mod RuleOrder

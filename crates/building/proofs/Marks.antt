@@ -1,18 +1,19 @@
 -- The marks of a shelf as the binary digits of a number. First one mark of a number; then the first mark and the others, in one step; then
--- marks taken one after the other; last a mark that is added. The idea: the lowest digit is the first mark, or the first mark stands one
--- up from that of the half.
-use mathlib.Core.Bool.{Bool, false, true}
+-- marks taken one after the other; last a mark that is added, and a mask that is made flag by flag. The idea: the lowest digit is the first
+-- mark, or the first mark stands one up from that of the half.
+use mathlib.Core.Bool.{Bool, cond, false, true}
 use mathlib.Core.Path.{_∙_, _≡_, ap, refl, subst, sym}
 use Prim.Native.Nat.{_*_, _+_, _-_, _/_, _<_, _%_, _^_, _≤_, min, suc, zero, ℕ}
 use native.Mathlib.Nat.{div-add-mod', div-div-eq-div-mul, div-eq-of-lt, div-one, div-self, mod-lt, mul-div-cancel, mul-mod-left, pow-succ'}
 use native.Mathlib.Nat.{zero-div}
 use native.Mathlib.Omega.{arith}
+use borrow.Author.Count.{below-more}
 use borrow.Author.Tests.{ltb-false, ltb-true}
 use lib.Arith.{digits-div, digits-mod}
-use lib.Bits.{and-le-l, and-le-r, and-self, and-step, bitAnd, bitOr, or-add-and, or-lt, or-mod, or-shr}
+use lib.Bits.{and-le-l, and-le-r, and-self, and-step, bitAnd, bitOr, or-add-and, or-lt, or-mod, or-shr, or-zero-r, shifted-even, shifted-half}
 use lib.Count.{trailingZeros, under}
 use lib.Dec.{ltb}
-use lib.Pow.{pow-lt, pow-mono, pow-pos}
+use lib.Pow.{pow-lt, pow-mono, pow-pos, shl-shr}
 use Rattle.building.specs.Bounds.{mostFlags}
 use Rattle.building.specs.Slots.{markAt}
 
@@ -108,13 +109,13 @@ firstMark marks = trailingZeros 64 marks
 abbrev pub laterMarks : ℕ → ℕ
 laterMarks marks = bitAnd marks (marks - 1)
 
--- of the marks of a shelf of so many flags, those before n are taken
+-- of marks of so many flags, those before n are taken
 pub record Rest (size all n marks : ℕ) : Type 0 where
   pub small : size ≤ mostFlags
   pub far : n ≤ size
   pub few : marks < 2 ^ size
   taken : (b : ℕ) → b < n → markAt marks b ≡ 0
-  left : (b : ℕ) → n ≤ b → markAt marks b ≡ 0 → markAt all b ≡ 0
+  left : (b : ℕ) → n ≤ b → markAt marks b ≡ markAt all b
 
 pub rest-starts : (size all : ℕ) → size ≤ mostFlags → all < 2 ^ size → Rest size all 0 all
 rest-starts size all small few = record {
@@ -122,12 +123,12 @@ rest-starts size all small few = record {
   far = omega arith;
   few = few;
   taken = λ b h. absurd (omega arith);
-  left = λ b h e. e;
+  left = λ b h. refl;
 }
 
 -- none is left
 pub rest-ends : (size all n marks : ℕ) → Rest size all n marks → marks ≡ 0 → (b : ℕ) → n ≤ b → markAt all b ≡ 0
-rest-ends size all n marks r e b h = r .left b h (ap (λ x. markAt x b) e ∙ no-mark b)
+rest-ends size all n marks r e b h = sym (r .left b h) ∙ ap (λ x. markAt x b) e ∙ no-mark b
 
 -- the first of those left, and the others
 module _ (size all n marks : ℕ) (r : Rest size all n marks) (some : (marks ≡ 0 → ⊥)) where
@@ -149,7 +150,10 @@ module _ (size all n marks : ℕ) (r : Rest size all n marks) (some : (marks ≡
       go false h = ltb-false (firstMark marks) n h
 
   pub none-between : (b : ℕ) → n ≤ b → b < firstMark marks → markAt all b ≡ 0
-  none-between b h l = r .left b h (taken-first .below b l)
+  none-between b h l = sym (r .left b h) ∙ taken-first .below b l
+
+  pub first-marked : markAt all (firstMark marks) ≡ 1
+  first-marked = sym (r .left (firstMark marks) first-onward) ∙ taken-first .here
 
   pub rest-onward : Rest size all (firstMark marks + 1) (laterMarks marks)
   rest-onward = record {
@@ -157,7 +161,7 @@ module _ (size all n marks : ℕ) (r : Rest size all n marks) (some : (marks ≡
     far = omega (arith, first-below);
     few = omega (arith, and-le-l marks (marks - 1), r .few);
     taken = λ b h. taken-first .gone b (omega arith);
-    left = λ b h w. r .left b (omega (arith, first-onward)) (sym (taken-first .kept b (omega arith)) ∙ w);
+    left = λ b h. taken-first .kept b (omega arith) ∙ r .left b (omega (arith, first-onward));
   }
 
 -- there are fewer
@@ -184,3 +188,46 @@ not-added m flag b e = (both .0, λ same. omega (arith, both .1, added same))
 -- the marks stay few
 pub few-added : (size m flag : ℕ) → m < 2 ^ size → flag < size → bitOr m (2 ^ flag) < 2 ^ size
 few-added size m flag few h = or-lt size m (2 ^ flag) few (pow-lt h)
+
+-- ---- a mask that is made flag by flag
+-- it has the flags below n that pass the test, and no others
+pub record Mask (test : ℕ → Bool) (n marks : ℕ) : Type 0 where
+  pub few : marks < 2 ^ n
+  pub right : (b : ℕ) → b < n → markAt marks b ≡ cond (test b) 1 0
+
+-- the mark of a flag is no lower one
+lower-mark : (flag b : ℕ) → b < flag → markAt (1 * 2 ^ flag) b ≡ 0
+lower-mark zero b h = absurd (omega arith)
+lower-mark (suc flag) zero h = lowest-digit (1 * 2 ^ suc flag) ∙ shifted-even 1 flag
+lower-mark (suc flag) (suc b) h =
+    later-digit (1 * 2 ^ suc flag) b ∙ ap (λ x. markAt x b) (shifted-half 1 flag) ∙ lower-mark flag b (omega arith)
+
+-- none at first
+pub mask-starts : (test : ℕ → Bool) → Mask test 0 0
+mask-starts test = record { few = omega arith; right = λ b h. absurd (omega arith) }
+
+-- the next flag passes and is marked, or does not and is not
+module _ {test : ℕ → Bool} {n marks : ℕ} (m : Mask test n marks) where
+  wider : marks < 2 ^ (n + 1)
+  wider = omega (arith, m .few, pow-lt {i = n} {j = n + 1} (omega arith))
+
+  pub mask-marked : test n ≡ true → Mask test (n + 1) (bitOr marks (1 * 2 ^ n))
+  mask-marked e = record { few = few; right = below-more (λ b. markAt (bitOr marks (1 * 2 ^ n)) b ≡ cond (test b) 1 0) n before here }
+    where
+      few : bitOr marks (1 * 2 ^ n) < 2 ^ (n + 1)
+      few = or-lt (n + 1) marks (1 * 2 ^ n) wider (omega (arith, pow-lt {i = n} {j = n + 1} (omega arith)))
+
+      before : (b : ℕ) → b < n → markAt (bitOr marks (1 * 2 ^ n)) b ≡ cond (test b) 1 0
+      before b h = or-marks marks (1 * 2 ^ n) b ∙ ap (bitOr (markAt marks b)) (lower-mark n b h) ∙ or-zero-r (markAt marks b) ∙ m .right b h
+
+      here : markAt (bitOr marks (1 * 2 ^ n)) n ≡ cond (test n) 1 0
+      here = rw e (or-marks marks (1 * 2 ^ n) n ∙ (λ i. bitOr (high-mark n marks n (m .few) (omega arith) i) (one i)))
+        where
+          one : markAt (1 * 2 ^ n) n ≡ 1
+          one = ap (λ x. x % 2) (shl-shr 1 n)
+
+  pub mask-unmarked : test n ≡ false → Mask test (n + 1) marks
+  mask-unmarked e = record {
+    few = wider;
+    right = below-more (λ b. markAt marks b ≡ cond (test b) 1 0) n (m .right) (rw e (high-mark n marks n (m .few) (omega arith)));
+  }

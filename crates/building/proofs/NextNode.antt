@@ -110,7 +110,7 @@ module _ (input : List ℕ) (t : State) (work : List ℕ) (made : List Record) (
 
       -- the lists are of the records that the rules begin with
       search : NextRule input (t .rules) kind label rule
-      search = subst (λ x. NextRule input x kind label rule) (sym (s .constants .rules)) (told input (2 * nodesIn input + 3) listed rules low)
+      search = subst (λ x. NextRule input x kind label rule) (sym (s .constants .rules)) (told input (2 * nodesIn input + 3) (listed .rules) rules low)
 
       found : NextRule input (t .rules) (s .here .here .kind + ruleAbove) (number (s .here .here) 0) rule
       found =

@@ -1,11 +1,12 @@
 -- The two loops over flags: that there is room for a turn, and what it adds to the flags that are done. First the loop over the right
--- flags, then that over the left ones, and with it the rule. The idea: all flags below a position are done; a flag with no mark has an
--- empty slot and changes nothing, so that the position may be moved on to the next mark, and behind the last mark to the end.
--- B and W are the batch and the work where the loop begins, B′ and W′ what they are now.
+-- flags, then that over the left ones, and with it the rule. The idea: all flags below a position are done; a flag that is not among the
+-- marks that are walked has an empty slot or shares a bit, and changes nothing, so that the position may be moved on to the next mark, and
+-- behind the last mark to the end. B and W are the batch and the work where the loop begins, B′ and W′ what they are now.
 use mathlib.Core.Bool.{Bool, false, true}
 use mathlib.Core.List.{List, [], _++_, _∷_, append-nil}
+use mathlib.Core.Logic.{inl, ⊎-elim}
 use mathlib.Core.Path.{_∙_, _≡_, ap, refl, subst, sym}
-use Prim.Native.Nat.{_*_, _+_, _-_, _/_, _<_, _^_, _≤_, suc, zero, ℕ}
+use Prim.Native.Nat.{_*_, _+_, _-_, _<_, _^_, _≤_, suc, zero, ℕ}
 use native.Mathlib.Nat.{pow-le-pow-right}
 use native.Mathlib.Omega.{arith}
 use borrow.Author.Tests.{eq-eqb, eqb-false, eqb-true}
@@ -16,10 +17,12 @@ use lib.Pow.{pow-mono, pow-pos}
 use Rattle.paper.specs.Lists.{each, upTo}
 use Rattle.laws.proofs.Bound.{few-beside}
 use Rattle.building.specs.Batch.{RoomFor, recordsIn}
-use Rattle.building.specs.Bounds.{batchRecords, fieldNumbers, mostFlags, waitingRecords, ruleSplits, slotSets, splitRecords}
+use Rattle.building.specs.Bounds.{batchRecords, fieldNumbers, mostFlags, waitingRecords, ruleSplits, splitRecords}
 use Rattle.building.specs.Rules.{Branch, Branches, FlagsOf, OneShelf, Room, Runs, Stands, Unites, flagsAt, pairAt, splitsRun}
-use Rattle.building.specs.Slots.{marksAt, slotAt}
-use Rattle.building.proofs.Marks.{Rest, first-below, first-onward, firstMark, laterMarks, none-between, rest-ends, rest-onward, rest-starts}
+use Rattle.building.specs.Slots.{markAt, marksAt, slotAt}
+use Rattle.building.specs.Splits.{Free}
+use Rattle.building.proofs.Marks.{Rest, first-below, first-marked, first-onward, firstMark, laterMarks, no-mark, none-between, rest-ends}
+use Rattle.building.proofs.Marks.{rest-onward, rest-starts}
 use Rattle.building.proofs.Running.{each-le, each-upTo, flags-apart, flags-none, flags-shared, low-stays, marked-stays, none-run, one-run}
 use Rattle.building.proofs.Running.{run-others, same-set, skipped-left, skipped-right, then-run}
 
@@ -142,23 +145,28 @@ module _ {rule : Branch} {k : ℕ} {B W : List ℕ} {b₁ n count : ℕ} {B′ W
       (one-run count B′ W′ (here .low) b₁ n (slotAt W (rule .left + b₁)) (slotAt W′ (rule .right + n)) c B″ W″ left-flag right-flag (flag-below e)
       same-left refl nl nr u)
 
--- ---- the loop over b₂: of the right shelf's marks some are left, and the flags before them are done
-pub record RightLoop (rule : Branch) (k : ℕ) (B W : List ℕ) (b₁ marks count : ℕ) (B′ W′ : List ℕ) : Type 0 where
+-- ---- the loop over b₂: of the marks that are walked some are left, and the flags before them are done
+pub record RightLoop (rule : Branch) (k : ℕ) (B W : List ℕ) (b₁ walked marks count : ℕ) (B′ W′ : List ℕ) : Type 0 where
   pub batch-kept : length B′ ≡ length B
   pub work-kept : length W′ ≡ length W
   come : ℕ
-  rest : Rest (rule .size) (marksAt W (rule .right)) come marks
+  rest : Rest (rule .size) walked come marks
   done : Runs (flagsAt (rule .own) come b₁) rule k B W count B′ W′
 
+-- own flag and left flag are together a flag
+pub taken-below : {rule : Branch} {k : ℕ} {B W : List ℕ} → Room rule k B W → (b₁ : ℕ) → b₁ < rule .size → bitAnd (rule .own) b₁ ≡ 0
+    → rule .own + b₁ < rule .size
+taken-below {rule} room b₁ h e = sum-below (rule .size) (rule .own) b₁ (room .flags) (room .own-flag) h e
+
 module _ {rule : Branch} {k : ℕ} {B W : List ℕ} (room : Room rule k B W) {b₁ : ℕ} (left-flag : b₁ < rule .size)
-    (left-apart : bitAnd (rule .own) b₁ ≡ 0) where
+    (left-apart : bitAnd (rule .own) b₁ ≡ 0) {walked : ℕ} (free : Free (rule .size) (rule .own + b₁) (marksAt W (rule .right)) walked) where
   -- nothing is done yet
-  pub right-starts : RightLoop rule k B W b₁ (marksAt W (rule .right)) k B W
+  pub right-starts : RightLoop rule k B W b₁ walked walked k B W
   right-starts = record {
     batch-kept = refl;
     work-kept = refl;
     come = 0;
-    rest = rest-starts (rule .size) (marksAt W (rule .right)) (size-small (rule .size) (room .flags)) (room .right-marked .few);
+    rest = rest-starts (rule .size) walked (size-small (rule .size) (room .flags)) (free .few);
     done = none-run k B W (room .low);
   }
 
@@ -174,7 +182,7 @@ module _ {rule : Branch} {k : ℕ} {B W : List ℕ} (room : Room rule k B W) {b�
       done = done;
     }
 
-    -- one flag with an empty slot, and then so many
+    -- one flag with an empty slot, one that is not walked, and then so many
     one-empty : (n : ℕ) → n < rule .size → slotAt W (rule .right + n) ≡ 0 → Runs (flagsAt (rule .own) n b₁) rule k B W count B′ W′
         → Runs (flagsAt (rule .own) (n + 1) b₁) rule k B W count B′ W′
     one-empty n h z done = go (eqb (bitAnd (rule .own + b₁) n) 0) refl
@@ -185,30 +193,38 @@ module _ {rule : Branch} {k : ℕ} {B W : List ℕ} (room : Room rule k B W) {b�
             (same-set (done .shelf) (rule .right) (room .right-before) n h ∙ z)
         go false e = with-shared (turn-at n h done) (eqb-false (bitAnd (rule .own + b₁) n) 0 e)
 
-    past-empty : (n m : ℕ) → n ≤ m → m ≤ rule .size → ((b : ℕ) → n ≤ b → b < m → slotAt W (rule .right + b) ≡ 0)
-        → Runs (flagsAt (rule .own) n b₁) rule k B W count B′ W′ → Runs (flagsAt (rule .own) m b₁) rule k B W count B′ W′
-    past-empty n m l h z =
-        climbs (λ x. Runs (flagsAt (rule .own) x b₁) rule k B W count B′ W′) (m - n) n m (omega arith)
-        (λ b from to. one-empty b (omega arith) (z b from to))
+    one-passed : (n : ℕ) → n < rule .size → markAt walked n ≡ 0 → Runs (flagsAt (rule .own) n b₁) rule k B W count B′ W′
+        → Runs (flagsAt (rule .own) (n + 1) b₁) rule k B W count B′ W′
+    one-passed n h z done =
+        ⊎-elim (λ unmarked. one-empty n h (room .right-marked .empty n h unmarked) done) (with-shared (turn-at n h done)) (free .skips n h z)
 
-  module _ {marks count : ℕ} {B′ W′ : List ℕ} (s : RightLoop rule k B W b₁ marks count B′ W′) where
+    passed : (n m : ℕ) → n ≤ m → m ≤ rule .size → ((b : ℕ) → n ≤ b → b < m → markAt walked b ≡ 0)
+        → Runs (flagsAt (rule .own) n b₁) rule k B W count B′ W′ → Runs (flagsAt (rule .own) m b₁) rule k B W count B′ W′
+    passed n m l h z =
+        climbs (λ x. Runs (flagsAt (rule .own) x b₁) rule k B W count B′ W′) (m - n) n m (omega arith)
+        (λ b from to. one-passed b (omega arith) (z b from to))
+
+  module _ {marks count : ℕ} {B′ W′ : List ℕ} (s : RightLoop rule k B W b₁ walked marks count B′ W′) where
     -- no mark is left
     pub right-ends : marks ≡ 0 → Runs (flagsAt (rule .own) (rule .size) b₁) rule k B W count B′ W′
     right-ends e =
-        past-empty (s .batch-kept) (s .work-kept) (s .come) (rule .size) (s .rest .far) (omega arith)
-        (λ b h l. room .right-marked .empty b l (rest-ends _ _ _ _ (s .rest) e b h)) (s .done)
+        passed (s .batch-kept) (s .work-kept) (s .come) (rule .size) (s .rest .far) (omega arith)
+        (λ b h l. rest-ends _ _ _ _ (s .rest) e b h) (s .done)
 
     module _ (some : (marks ≡ 0 → ⊥)) where
-      -- at the first that is left
+      -- at the first that is left, which shares no bit
       pub right-turn : RightTurn rule k B W b₁ (firstMark marks) count B′ W′
       right-turn =
           let below = first-below _ _ _ _ (s .rest) some in
           turn-at (s .batch-kept) (s .work-kept) (firstMark marks) below
-          (past-empty (s .batch-kept) (s .work-kept) (s .come) (firstMark marks) (first-onward _ _ _ _ (s .rest) some) (omega (arith, below))
-          (λ b h l. room .right-marked .empty b (omega (arith, below)) (none-between _ _ _ _ (s .rest) some b h l)) (s .done))
+          (passed (s .batch-kept) (s .work-kept) (s .come) (firstMark marks) (first-onward _ _ _ _ (s .rest) some) (omega (arith, below))
+          (λ b h l. none-between _ _ _ _ (s .rest) some b h l) (s .done))
+
+      pub right-apart : bitAnd (rule .own + b₁) (firstMark marks) ≡ 0
+      right-apart = free .takes (firstMark marks) (first-below _ _ _ _ (s .rest) some) (first-marked _ _ _ _ (s .rest) some)
 
       pub right-onward : {c : ℕ} {B″ W″ : List ℕ} → length B″ ≡ length B → length W″ ≡ length W
-          → Runs (flagsAt (rule .own) (firstMark marks + 1) b₁) rule k B W c B″ W″ → RightLoop rule k B W b₁ (laterMarks marks) c B″ W″
+          → Runs (flagsAt (rule .own) (firstMark marks + 1) b₁) rule k B W c B″ W″ → RightLoop rule k B W b₁ walked (laterMarks marks) c B″ W″
       right-onward eb ew done = record {
         batch-kept = eb;
         work-kept = ew;
@@ -231,11 +247,6 @@ module _ {rule : Branch} {k : ℕ} {B W : List ℕ} {n count : ℕ} {B′ W′ :
   -- the splits beside one left flag have room
   pub beside-room : Room rule count B′ W′
   beside-room = room-stays batch-kept work-kept (done .shelf) room
-
-  -- and the right shelf's marks stay
-  pub beside-marks : marksAt W (rule .right) ≡ marksAt W′ (rule .right)
-  beside-marks =
-      ap (λ x. x / slotSets) (sym (done .shelf .below (rule .right) (omega (arith, room .right-before, some-flag (rule .size) (room .flags)))))
 
   pub beside-few : k ≤ waitingRecords → count + splitRecords * length (flagsAt (rule .own) (rule .size) n) ≤ batchRecords
   beside-few few =
@@ -270,34 +281,18 @@ module _ {rule : Branch} {k : ℕ} {B W : List ℕ} {n count : ℕ} {B′ W′ :
       (same-set (done .shelf) (rule .left) (room .left-before) n left-flag ∙ z))
 
 -- ---- the loop over b₁, likewise
-pub record LeftLoop (rule : Branch) (k : ℕ) (B W : List ℕ) (marks count : ℕ) (B′ W′ : List ℕ) : Type 0 where
+pub record LeftLoop (rule : Branch) (k : ℕ) (B W : List ℕ) (walked marks count : ℕ) (B′ W′ : List ℕ) : Type 0 where
   pub batch-kept : length B′ ≡ length B
   pub work-kept : length W′ ≡ length W
   come : ℕ
-  rest : Rest (rule .size) (marksAt W (rule .left)) come marks
+  rest : Rest (rule .size) walked come marks
   done : Runs (each (upTo come) (flagsAt (rule .own) (rule .size))) rule k B W count B′ W′
 
 module _ {rule : Branch} {k : ℕ} {B W : List ℕ} (room : Room rule k B W) where
-  pub left-starts : LeftLoop rule k B W (marksAt W (rule .left)) k B W
-  left-starts = record {
-    batch-kept = refl;
-    work-kept = refl;
-    come = 0;
-    rest = rest-starts (rule .size) (marksAt W (rule .left)) (size-small (rule .size) (room .flags)) (room .left-marked .few);
-    done = none-run k B W (room .low);
-  }
-
   module _ {count : ℕ} {B′ W′ : List ℕ} (eb : length B′ ≡ length B) (ew : length W′ ≡ length W) where
     left-at : (n : ℕ) → n < rule .size → Runs (each (upTo n) (flagsAt (rule .own) (rule .size))) rule k B W count B′ W′
         → LeftTurn rule k B W n count B′ W′
     left-at n h done = record { batch-kept = eb; work-kept = ew; room = room; left-flag = h; done = done }
-
-    past-none : (n m : ℕ) → n ≤ m → m ≤ rule .size → ((b : ℕ) → n ≤ b → b < m → slotAt W (rule .left + b) ≡ 0)
-        → Runs (each (upTo n) (flagsAt (rule .own) (rule .size))) rule k B W count B′ W′
-        → Runs (each (upTo m) (flagsAt (rule .own) (rule .size))) rule k B W count B′ W′
-    past-none n m l h z =
-        climbs (λ x. Runs (each (upTo x) (flagsAt (rule .own) (rule .size))) rule k B W count B′ W′) (m - n) n m (omega arith)
-        (λ b from to done. with-none (left-at b (omega arith) done) (z b from to))
 
   -- the flags of both loops: all splits of the rule
   all-done : {count : ℕ} {B′ W′ : List ℕ} → Runs (each (upTo (rule .size)) (flagsAt (rule .own) (rule .size))) rule k B W count B′ W′
@@ -321,13 +316,21 @@ module _ {rule : Branch} {k : ℕ} {B W : List ℕ} (room : Room rule k B W) whe
       }
 
   -- nothing at all on the right side: the splits beside any left flag change nothing
+  none-free : (taken marked : ℕ) → marked ≡ 0 → Free (rule .size) taken marked 0
+  none-free taken marked e = record {
+    few = omega (arith, pow-pos (rule .size));
+    takes = λ b h w. absurd (omega (arith, no-mark b));
+    skips = λ b h w. inl (ap (λ x. markAt x b) e ∙ no-mark b);
+  }
+
   beside-none : marksAt W (rule .right) ≡ 0 → (b : ℕ) → b < rule .size → Runs (flagsAt (rule .own) (rule .size) b) rule k B W k B W
   beside-none e b h = go (eqb (bitAnd (rule .own) b) 0) refl
     where
       go : (c : Bool) → eqb (bitAnd (rule .own) b) 0 ≡ c → Runs (flagsAt (rule .own) (rule .size) b) rule k B W k B W
       go true a =
           let apart = eqb-true (bitAnd (rule .own) b) 0 a in
-          right-ends room h apart (right-starts room h apart) e
+          let free = none-free (rule .own + b) (marksAt W (rule .right)) e in
+          right-ends room h apart free (right-starts room h apart free) refl
       go false a = rw (flags-none (rule .own) b (rule .size) (eqb-false (bitAnd (rule .own) b) 0 a)) (none-run k B W (room .low))
 
   pub right-none : marksAt W (rule .right) ≡ 0 → Branches rule k B W k B W
@@ -336,28 +339,52 @@ module _ {rule : Branch} {k : ℕ} {B W : List ℕ} (room : Room rule k B W) whe
       (climbs (λ x. Runs (each (upTo x) (flagsAt (rule .own) (rule .size))) rule k B W k B W) (rule .size) 0 (rule .size) (omega arith)
       (λ b from to done. with-left (left-at refl refl b to done) k B W (beside-none e b to)) (none-run k B W (room .low)))
 
-  module _ {marks count : ℕ} {B′ W′ : List ℕ} (s : LeftLoop rule k B W marks count B′ W′) where
-    pub left-ends : marks ≡ 0 → Branches rule k B W count B′ W′
-    left-ends e =
-        all-done
-        (past-none (s .batch-kept) (s .work-kept) (s .come) (rule .size) (s .rest .far) (omega arith)
-        (λ b h l. room .left-marked .empty b l (rest-ends _ _ _ _ (s .rest) e b h)) (s .done))
+  module _ {walked : ℕ} (free : Free (rule .size) (rule .own) (marksAt W (rule .left)) walked) where
+    pub left-starts : LeftLoop rule k B W walked walked k B W
+    left-starts = record {
+      batch-kept = refl;
+      work-kept = refl;
+      come = 0;
+      rest = rest-starts (rule .size) walked (size-small (rule .size) (room .flags)) (free .few);
+      done = none-run k B W (room .low);
+    }
 
-    module _ (some : (marks ≡ 0 → ⊥)) where
-      pub left-turn : LeftTurn rule k B W (firstMark marks) count B′ W′
-      left-turn =
-          let below = first-below _ _ _ _ (s .rest) some in
-          left-at (s .batch-kept) (s .work-kept) (firstMark marks) below
-          (past-none (s .batch-kept) (s .work-kept) (s .come) (firstMark marks) (first-onward _ _ _ _ (s .rest) some) (omega (arith, below))
-          (λ b h l. room .left-marked .empty b (omega (arith, below)) (none-between _ _ _ _ (s .rest) some b h l)) (s .done))
+    module _ {count : ℕ} {B′ W′ : List ℕ} (eb : length B′ ≡ length B) (ew : length W′ ≡ length W) where
+      left-passed : (n m : ℕ) → n ≤ m → m ≤ rule .size → ((b : ℕ) → n ≤ b → b < m → markAt walked b ≡ 0)
+          → Runs (each (upTo n) (flagsAt (rule .own) (rule .size))) rule k B W count B′ W′
+          → Runs (each (upTo m) (flagsAt (rule .own) (rule .size))) rule k B W count B′ W′
+      left-passed n m l h z =
+          climbs (λ x. Runs (each (upTo x) (flagsAt (rule .own) (rule .size))) rule k B W count B′ W′) (m - n) n m (omega arith)
+          (λ b from to done.
+          let turn = left-at eb ew b (omega arith) done in
+          ⊎-elim (λ unmarked. with-none turn (room .left-marked .empty b (omega arith) unmarked)) (without-left turn)
+          (free .skips b (omega arith) (z b from to)))
 
-      pub left-onward : {c : ℕ} {B″ W″ : List ℕ} → length B″ ≡ length B → length W″ ≡ length W
-          → Runs (each (upTo (firstMark marks + 1)) (flagsAt (rule .own) (rule .size))) rule k B W c B″ W″
-          → LeftLoop rule k B W (laterMarks marks) c B″ W″
-      left-onward eb ew done = record {
-        batch-kept = eb;
-        work-kept = ew;
-        come = firstMark marks + 1;
-        rest = rest-onward _ _ _ _ (s .rest) some;
-        done = done;
-      }
+    module _ {marks count : ℕ} {B′ W′ : List ℕ} (s : LeftLoop rule k B W walked marks count B′ W′) where
+      pub left-ends : marks ≡ 0 → Branches rule k B W count B′ W′
+      left-ends e =
+          all-done
+          (left-passed (s .batch-kept) (s .work-kept) (s .come) (rule .size) (s .rest .far) (omega arith)
+          (λ b h l. rest-ends _ _ _ _ (s .rest) e b h) (s .done))
+
+      module _ (some : (marks ≡ 0 → ⊥)) where
+        pub left-turn : LeftTurn rule k B W (firstMark marks) count B′ W′
+        left-turn =
+            let below = first-below _ _ _ _ (s .rest) some in
+            left-at (s .batch-kept) (s .work-kept) (firstMark marks) below
+            (left-passed (s .batch-kept) (s .work-kept) (s .come) (firstMark marks) (first-onward _ _ _ _ (s .rest) some) (omega (arith, below))
+            (λ b h l. none-between _ _ _ _ (s .rest) some b h l) (s .done))
+
+        pub left-apart-first : bitAnd (rule .own) (firstMark marks) ≡ 0
+        left-apart-first = free .takes (firstMark marks) (first-below _ _ _ _ (s .rest) some) (first-marked _ _ _ _ (s .rest) some)
+
+        pub left-onward : {c : ℕ} {B″ W″ : List ℕ} → length B″ ≡ length B → length W″ ≡ length W
+            → Runs (each (upTo (firstMark marks + 1)) (flagsAt (rule .own) (rule .size))) rule k B W c B″ W″
+            → LeftLoop rule k B W walked (laterMarks marks) c B″ W″
+        left-onward eb ew done = record {
+          batch-kept = eb;
+          work-kept = ew;
+          come = firstMark marks + 1;
+          rest = rest-onward _ _ _ _ (s .rest) some;
+          done = done;
+        }

@@ -128,7 +128,7 @@ module _ (t : State) (lists work : List ℕ) (q : ℕ) (m : Made) (more : t .cou
   -- whether the state is accepting, of any input whose rules are listed
   tells : (input : List ℕ) → Constants input t → Listed input lists → found ≡ has (acceptingOf (recordsOf (drop (t .rules) input))) q
   tells input k listed =
-      told input (2 * nodesIn input + 3) listed small ∙ ap (λ n. has (acceptingOf (recordsOf (drop n input))) q) (sym (k .rules))
+      told input (2 * nodesIn input + 3) (listed .rules) small ∙ ap (λ n. has (acceptingOf (recordsOf (drop n input))) q) (sym (k .rules))
 
   pub next-skipped : not found ≡ true → UnitesNext t lists work q m batch m batch
   next-skipped none = record {

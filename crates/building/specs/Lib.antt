@@ -3,6 +3,7 @@ pub mod Bounds
 pub mod Kinds
 pub mod Batch
 pub mod Slots
+pub mod Splits
 pub mod Rules
 pub mod NodeOrder
 pub mod RuleOrder

@@ -5,18 +5,18 @@
 // functions do, and they do little else: the records are made in a batch of plain numbers (batch.rt), by
 // functions that the checker covers, and `table::store` copies them. The other files, in the order in
 // which a build comes to them: start.rt, filling.rt, node.rt, rule.rt, roots.rt, answer.rt. What they
-// share: state.rt; frame.rt and slot.rt for the lent work.
+// share: state.rt; frame.rt and slot.rt for the lent work; triples.rt and splits.rt for the flags of a split.
 ghost use Rattle.building.specs.Driving.{Ready, Driven};
 ghost use Rattle.building.specs.Face.{Builds};
 use crate::answer::finish;
 use crate::batch::BATCH_NUMBERS;
 use crate::filling::fill;
 use crate::start::Begun;
+use crate::start::LOOKUP_NUMBERS;
 use crate::start::begin;
 use crate::state::State;
 use paper::Built;
 use paper::Record;
-use stream::LIST_NUMBERS;
 
 mod answer;
 mod batch;
@@ -26,8 +26,10 @@ mod node;
 mod roots;
 mod rule;
 mod slot;
+mod splits;
 mod start;
 mod state;
+mod triples;
 
 // The set of a stream, in the lent table. Nothing is asked of the caller: what is wrong is refused.
 pub fn build(input: &[u8], work: &mut [u64], table: &mut [Record]) -> Built
@@ -35,8 +37,8 @@ pub fn build(input: &[u8], work: &mut [u64], table: &mut [Record]) -> Built
 {
     // All that the start needs of the table: refusal 6 shows only when records are made.
     let entries = table.len();
-    // Local, 3,346 bytes, as the batch below: no memory is asked for, and the caller lends none for them.
-    let mut lists: [u16; LIST_NUMBERS] = [0; LIST_NUMBERS];
+    // Local, 3,410 bytes, as the batch below: no memory is asked for, and the caller lends none for them.
+    let mut lists: [u16; LOOKUP_NUMBERS] = [0; LOOKUP_NUMBERS];
     match begin(input, &mut *work, &mut lists, entries) {
         // With 1 to 5 the work and the table are as they were.
         Begun::Refused(why) => Built::Refused(why),

@@ -26,6 +26,7 @@ use crate::state::State;
 use crate::state::count_records;
 use paper::kinds::LEAF;
 use paper::kinds::RULE_ABOVE;
+use stream::LIST_NUMBERS;
 use stream::body_length;
 use stream::first_rule;
 use stream::rule_after;
@@ -105,11 +106,12 @@ pub(crate) fn branch_rules(
     requires { ⌜ (batchNumbers ≤ length (now batch)) × (t .count ≤ waitingRecords) ⌝ }
     ensures { λ r. ⌜ Turned (now (input .entry)) t (now (work .entry)) (now (batch .entry)) r (now (work .exit)) (now (batch .exit)) ⌝ }
 {
+    let notes = &lists[LIST_NUMBERS..];
     let mut count = t.count;
     let mut rule = t.rule;
     while rule < input.len() && count <= WAITING_RECORDS {
         let here = branch_at(t, input, rule);
-        count = branch_rule(&mut *batch, &mut *work, count, here);
+        count = branch_rule(&mut *batch, &mut *work, notes, count, here);
         rule = rule_after(lists, rule - t.rules);
     }
     count_records(t, count, rule)

@@ -1,6 +1,7 @@
 // One rule at one node: the records that it makes go into a batch, the sets into the shelf of the rule's
 // state in the node's frame. First a leaf rule and whether it is used; then a branch rule: one split, a flag
-// b1 for the left child and b2 for the right one, the splits with one left flag, and all of them.
+// b1 for the left child and b2 for the right one, the splits with one left flag, and all of them. Which flags
+// share no bit the notes of the table of triples tell (splits.rt).
 ghost use mathlib.Core.Path.{_≡_};
 ghost use Prim.Native.Nat.{_+_, _*_, _≤_, _<_};
 ghost use lib.Bits.{bitAnd};
@@ -9,13 +10,16 @@ ghost use Rattle.paper.specs.Building.{canStand, triple, recordSets};
 ghost use Rattle.building.specs.Batch.{setIn, Makes, RoomFor};
 ghost use Rattle.building.specs.Bounds.{batchRecords, fieldNumbers, mostFlags, waitingRecords, splitRecords, tripleRecords};
 ghost use Rattle.building.specs.Rules.{splitAt, flagsAt, Unites, Leaves, Branches, Room, Runs};
-ghost use Rattle.building.specs.Slots.{marksAt, slotAt};
+ghost use Rattle.building.specs.Slots.{slotAt};
+ghost use Rattle.building.specs.Splits.{Noted};
 use crate::batch::Made;
 use crate::batch::product;
 use crate::batch::single;
 use crate::batch::union;
 use crate::slot::SETS;
 use crate::slot::put_set;
+use crate::splits::free_beside;
+use crate::splits::free_marks;
 use paper::Flag;
 use paper::limits::PAD_LABEL;
 use table::EMPTY;
@@ -121,22 +125,21 @@ fn split(
 }
 
 // The splits of a branch rule whose left flag is b1, unless the left child's slot is empty: for each b2
-// ascending that shares no bit and at which the right child's slot is not empty. Such a b2 is marked: the
-// marks of the right shelf are taken one by one, the lowest first. The loop ends since each turn takes a
-// mark away. The rule writes its own shelf alone, so that what is read of the children's stays the same:
-// the marks are therefore read once for the whole rule, and come with the call.
+// ascending that shares no bit and at which the right child's slot is not empty. Such a b2 is marked, and
+// the notes have it: these marks are taken one by one, the lowest first. The loop ends since each turn
+// takes a mark away. The rule writes its own shelf alone, so that what is read of the children's stays the
+// same.
 fn beside(
     batch: &mut [u16],
     work: &mut [u64],
+    notes: &[u16],
     k: usize,
     rule: Branch,
     b1: usize,
-    marked: u64,
 ) -> usize
-    requires { ⌜ Room rule k (now batch) (now work) ⌝ }
+    requires { ⌜ Room rule k (now batch) (now work) × Noted (rule .size) (now notes) ⌝ }
     requires { ⌜ (b1 < rule .size) × (bitAnd (rule .own) b1 ≡ 0) ⌝ }
     requires { ⌜ k + splitRecords * length (flagsAt (rule .own) (rule .size) b1) ≤ batchRecords ⌝ }
-    requires { ⌜ marked ≡ marksAt (now work) (rule .right) ⌝ }
     ensures { λ r. ⌜ Runs (flagsAt (rule .own) (rule .size) b1) rule k
         (now (batch .entry)) (now (work .entry)) r (now (batch .exit)) (now (work .exit)) ⌝ }
 {
@@ -147,17 +150,15 @@ fn beside(
         return k;
     }
     let mut count = k;
-    let mut marks = marked;
+    // Own flag and b1 share no bit: their sum has the bits of both.
+    let mut marks = free_beside(notes, rule.own + b1, work[right] / SETS);
     while marks != 0 {
         // The lowest mark that is left; the last line of the turn takes it away.
         let b2 = u64::trailing_zeros(marks) as usize;
-        // A shared bit would fill a place twice. Own flag and b1 share none: their sum has the bits of both.
-        if ((rule.own + b1) & b2) == 0 {
-            let there = work[right + b2] % SETS;
-            // What is proved of the marks is only that a slot without one is empty.
-            if there != EMPTY {
-                count = split(&mut *batch, &mut *work, count, rule, b1, b2, here, there);
-            }
+        let there = work[right + b2] % SETS;
+        // What is proved of the marks is only that a slot without one is empty.
+        if there != EMPTY {
+            count = split(&mut *batch, &mut *work, count, rule, b1, b2, here, there);
         }
         marks = marks & (marks - 1);
     }
@@ -167,24 +168,28 @@ fn beside(
 // A branch rule that matches: its splits, for each b1 ascending that shares no bit with the own flag and
 // then for each such b2. The marks of the left shelf are taken likewise, and the loop ends likewise. All
 // splits together make at most RULE_RECORDS: with no more than WAITING_RECORDS in the batch there is room for them.
-pub(crate) fn branch_rule(batch: &mut [u16], work: &mut [u64], k: usize, rule: Branch) -> usize
-    requires { ⌜ Room rule k (now batch) (now work) × (k ≤ waitingRecords) ⌝ }
+pub(crate) fn branch_rule(
+    batch: &mut [u16],
+    work: &mut [u64],
+    notes: &[u16],
+    k: usize,
+    rule: Branch,
+) -> usize
+    requires { ⌜ Room rule k (now batch) (now work) × Noted (rule .size) (now notes) ⌝ }
+    requires { ⌜ k ≤ waitingRecords ⌝ }
     ensures { λ r. ⌜ Branches rule k (now (batch .entry)) (now (work .entry)) r (now (batch .exit)) (now (work .exit)) ⌝ }
 {
     let left = rule.left;
     let right = rule.right;
     // Many rules have nothing on one side: they are passed over here, by one look at each of the two shelves.
-    let marked = work[right] / SETS;
-    if marked == 0 {
+    if work[right] / SETS == 0 {
         return k;
     }
     let mut count = k;
-    let mut marks = work[left] / SETS;
+    let mut marks = free_marks(notes, rule.own, work[left] / SETS);
     while marks != 0 {
         let b1 = u64::trailing_zeros(marks) as usize;
-        if (rule.own & b1) == 0 {
-            count = beside(&mut *batch, &mut *work, count, rule, b1, marked);
-        }
+        count = beside(&mut *batch, &mut *work, notes, count, rule, b1);
         marks = marks & (marks - 1);
     }
     count

@@ -6,13 +6,17 @@ ghost use lib.ListN.{length};
 ghost use Rattle.paper.specs.Refusals.{answer};
 ghost use Rattle.stream.specs.Reading.{treeReply, queryReply};
 ghost use Rattle.building.specs.Bounds.{mostRecords};
-ghost use Rattle.building.specs.Listed.{listNumbers};
+ghost use Rattle.building.specs.Listed.{lookupNumbers};
 ghost use Rattle.building.specs.Start.{Begins};
+use crate::frame::flags;
 use crate::frame::frame_width;
 use crate::node::start_node;
+use crate::splits::NOTE_NUMBERS;
+use crate::splits::note;
 use crate::state::State;
 use paper::Refusal;
 use paper::limits::MOST_RECORDS;
+use stream::LIST_NUMBERS;
 use stream::QueryFacts;
 use stream::QueryRead;
 use stream::TreeFacts;
@@ -21,6 +25,9 @@ use stream::list_rules;
 use stream::read_query;
 use stream::read_tree;
 use table::EMPTY;
+
+// So many numbers a build looks up: the lists of its rules, and behind them the notes of its splits.
+pub(crate) const LOOKUP_NUMBERS: usize = LIST_NUMBERS + NOTE_NUMBERS;
 
 // The building stands at its first node, or is refused with 1 to 5.
 pub(crate) enum Begun {
@@ -51,7 +58,7 @@ fn start(
 ) -> Begun
     requires { ⌜ answer tree ≡ treeReply (now input) ⌝ }
     requires { ⌜ answer query ≡ queryReply (now input) (tree .end) ⌝ }
-    requires { ⌜ listNumbers ≤ length (now lists) ⌝ }
+    requires { ⌜ lookupNumbers ≤ length (now lists) ⌝ }
     ensures { λ r. ⌜ Begins (now (input .entry)) (now (work .entry)) entries r (now (work .exit)) (now (lists .exit)) ⌝ }
 {
     // A frame for each of the most subtrees ever unjoined, and one for the present node. At most 4,096
@@ -79,13 +86,14 @@ fn start(
         over: false,
     };
     list_rules(input, query.rules, &mut *lists);
+    note(&mut lists[LIST_NUMBERS..], flags(query.arity));
     Begun::Going(start_node(t, input, &*lists, &mut *work))
 }
 
 // The tree, then the query behind it: the first that is refused ends the build. What is kept of them is a
 // few numbers, and the lists, which tell where the rules stand.
 pub(crate) fn begin(input: &[u8], work: &mut [u64], lists: &mut [u16], entries: usize) -> Begun
-    requires { ⌜ listNumbers ≤ length (now lists) ⌝ }
+    requires { ⌜ lookupNumbers ≤ length (now lists) ⌝ }
     ensures { λ r. ⌜ Begins (now (input .entry)) (now (work .entry)) entries r (now (work .exit)) (now (lists .exit)) ⌝ }
 {
     match read_tree(input) {

@@ -43,7 +43,7 @@ use Rattle.paper.proofs.Refusal as R
 use Rattle.paper.proofs.Refusal.Laws as R′
 use Rattle.building.specs.Batch.{Record}
 use Rattle.building.specs.Bounds.{batchNumbers}
-use Rattle.building.specs.Listed.{listNumbers}
+use Rattle.building.specs.Listed.{lookupNumbers}
 use Rattle.building.specs.Standing.{State}
 use Rattle.building.specs.Driving.{Ready, Driven}
 use Rattle.building.specs.Start.{Begun, Begins, Started}
@@ -160,19 +160,19 @@ module _ {M : Type 1} (𝓤 : URA M) (H : Heap 𝓤) (A : Atoms 𝓤) (W : Given
         (κⁱ, (ν ∷ [], (νˡ ∷ [], tt))),
         (qⁱ, (fullShare, (fullShare, tt))),
         tt,
-        (at-list u8 bⁱ oⁱ γⁱ input, (at-list u64 bʷ oʷ δ work, (at-list u16 l 0 δˡ (copies listNumbers 0), (length table, tt)))),
-        (input-slice ∷ [], (work-slice ∷ [], (sliceVal (l, 0) listNumbers ∷ [], (vint w64 (length table) ∷ [], tt)))),
+        (at-list u8 bⁱ oⁱ γⁱ input, (at-list u64 bʷ oʷ δ work, (at-list u16 l 0 δˡ (copies lookupNumbers 0), (length table, tt)))),
+        (input-slice ∷ [], (work-slice ∷ [], (sliceVal (l, 0) lookupNumbers ∷ [], (vint w64 (length table) ∷ [], tt)))),
       ),
       tt,
     )
 
-    goes-begin : length table < 2 ^ 64 → (l : ℕ) → listNumbers ≤ length (copies {X = ℕ} listNumbers 0) → (ν : ℕ) (δ : GName) (νˡ : ℕ) (δˡ : GName)
+    goes-begin : length table < 2 ^ 64 → (l : ℕ) → lookupNumbers ≤ length (copies {X = ℕ} lookupNumbers 0) → (ν : ℕ) (δ : GName) (νˡ : ℕ) (δˡ : GName)
         → ent 𝓤 (⋆ 𝓤 H A (‵ (flft κⁱ qⁱ) ∷ ‵ (flft (ν ∷ []) fullShare) ∷ ‵ (flft (νˡ ∷ []) fullShare) ∷ ‵ Input
-        ∷ ‵ (Mine u64 bʷ oʷ (ν ∷ []) δ (length work) work) ∷ ‵ (Mine u16 l 0 (νˡ ∷ []) δˡ listNumbers (copies listNumbers 0)) ∷ []))
+        ∷ ‵ (Mine u64 bʷ oʷ (ν ∷ []) δ (length work) work) ∷ ‵ (Mine u16 l 0 (νˡ ∷ []) δˡ lookupNumbers (copies lookupNumbers 0)) ∷ []))
         (Begin .pre (to-begin l ν δ νˡ δˡ))
     goes-begin small l ok ν δ νˡ δˡ =
         qed W (‵ (flft κⁱ qⁱ) ∷ ‵ (flft (ν ∷ []) fullShare) ∷ ‵ (flft (νˡ ∷ []) fullShare) ∷ ‵ Input
-        ∷ ‵ (Mine u64 bʷ oʷ (ν ∷ []) δ (length work) work) ∷ ‵ (Mine u16 l 0 (νˡ ∷ []) δˡ listNumbers (copies listNumbers 0)) ∷ []) ∵
+        ∷ ‵ (Mine u64 bʷ oʷ (ν ∷ []) δ (length work) work) ∷ ‵ (Mine u16 l 0 (νˡ ∷ []) δˡ lookupNumbers (copies lookupNumbers 0)) ∷ []) ∵
         says ! ok $ nothing ! $ move ! (3 ∷ 0 ∷ []) $ join ! $ move ! (2 ∷ 0 ∷ []) $ join ! $ move ! (1 ∷ 0 ∷ []) $ join ! $ frame ! $
         nothing ! $ owns-number ! (length table) small $ fjoin ! $
         move ! (3 ∷ 0 ∷ []) $ fjoin ! $ move ! (2 ∷ 0 ∷ []) $ fjoin ! $ move ! (1 ∷ 0 ∷ []) $ fjoin ! $ done !
@@ -189,7 +189,7 @@ module _ {M : Type 1} (𝓤 : URA M) (H : Heap 𝓤) (A : Atoms 𝓤) (W : Given
         ),
         (
           table-slice ∷ [],
-          (input-slice ∷ [], (sliceVal (l, 0) listNumbers ∷ [], (machine shape s ∷ [], (work-slice ∷ [], (sliceVal (m, 0) batchNumbers ∷ [], tt))))),
+          (input-slice ∷ [], (sliceVal (l, 0) lookupNumbers ∷ [], (machine shape s ∷ [], (work-slice ∷ [], (sliceVal (m, 0) batchNumbers ∷ [], tt))))),
         ),
       ),
       tt,
@@ -198,12 +198,12 @@ module _ {M : Type 1} (𝓤 : URA M) (H : Heap 𝓤) (A : Atoms 𝓤) (W : Given
     goes-drive : (s : State) → Is S.the-row s (machine shape s ∷ []) → (w lists : List ℕ) (l m : ℕ) → Ready input lists table s w (copies batchNumbers 0)
         → (ν : ℕ) (δ : GName) (νˡ : ℕ) (δˡ : GName) (νʷ : ℕ) (δʷ : GName) (νᵇ : ℕ) (δᵇ : GName)
         → ent 𝓤 (⋆ 𝓤 H A (‵ (flft (ν ∷ []) fullShare) ∷ ‵ (flft κⁱ qⁱ) ∷ ‵ (flft (νˡ ∷ []) fullShare) ∷ ‵ (flft (νʷ ∷ []) fullShare)
-        ∷ ‵ (flft (νᵇ ∷ []) fullShare) ∷ ‵ (Mine Entry b o (ν ∷ []) δ (length table) table) ∷ ‵ Input ∷ ‵ (Seen u16 l 0 (νˡ ∷ []) δˡ listNumbers lists)
+        ∷ ‵ (flft (νᵇ ∷ []) fullShare) ∷ ‵ (Mine Entry b o (ν ∷ []) δ (length table) table) ∷ ‵ Input ∷ ‵ (Seen u16 l 0 (νˡ ∷ []) δˡ lookupNumbers lists)
         ∷ ‵ (Mine u64 bʷ oʷ (νʷ ∷ []) δʷ (length work) w) ∷ ‵ (Mine u16 m 0 (νᵇ ∷ []) δᵇ batchNumbers (copies batchNumbers 0)) ∷ []))
         (Drive .pre (to-drive s w lists l m ν δ νˡ δˡ νʷ δʷ νᵇ δᵇ))
     goes-drive s good w lists l m ok ν δ νˡ δˡ νʷ δʷ νᵇ δᵇ =
         qed W (‵ (flft (ν ∷ []) fullShare) ∷ ‵ (flft κⁱ qⁱ) ∷ ‵ (flft (νˡ ∷ []) fullShare) ∷ ‵ (flft (νʷ ∷ []) fullShare)
-        ∷ ‵ (flft (νᵇ ∷ []) fullShare) ∷ ‵ (Mine Entry b o (ν ∷ []) δ (length table) table) ∷ ‵ Input ∷ ‵ (Seen u16 l 0 (νˡ ∷ []) δˡ listNumbers lists)
+        ∷ ‵ (flft (νᵇ ∷ []) fullShare) ∷ ‵ (Mine Entry b o (ν ∷ []) δ (length table) table) ∷ ‵ Input ∷ ‵ (Seen u16 l 0 (νˡ ∷ []) δˡ lookupNumbers lists)
         ∷ ‵ (Mine u64 bʷ oʷ (νʷ ∷ []) δʷ (length work) w) ∷ ‵ (Mine u16 m 0 (νᵇ ∷ []) δᵇ batchNumbers (copies batchNumbers 0)) ∷ []) ∵
         says ! ok $ nothing ! $ move ! (5 ∷ 0 ∷ []) $ join ! $ move ! (4 ∷ 0 ∷ []) $ join ! $ move ! (3 ∷ 0 ∷ []) $ join ! $ move ! (2 ∷ 0 ∷ []) $
         join ! $ move ! (1 ∷ 0 ∷ []) $ join ! $ frame ! $
@@ -275,7 +275,7 @@ module _ {M : Type 1} (𝓤 : URA M) (H : Heap 𝓤) (A : Atoms 𝓤) (W : Given
 
         -- a loan of the lists and of the work: the reference and the slice
         abbrev lists-loan : List Hold → List Hold
-        lists-loan more = full (vptr lists-block 0) ∷ full (sliceVal (lists-block, 0) listNumbers) ∷ more
+        lists-loan more = full (vptr lists-block 0) ∷ full (sliceVal (lists-block, 0) lookupNumbers) ∷ more
 
         abbrev work-loan : List Hold → List Hold
         work-loan more = full (vptr bʷ oʷ) ∷ full work-slice ∷ more
@@ -284,7 +284,7 @@ module _ {M : Type 1} (𝓤 : URA M) (H : Heap 𝓤) (A : Atoms 𝓤) (W : Given
         abbrev Begun-context : Begun → List ℕ → List ℕ → List (Item 𝓤)
         Begun-context g w lists = ‵ (Elements (numbers w16) lists-block lists) ∷ ‵ (Table table) ∷ ‵ (flft κ q) ∷ ‵ (Work w) ∷ ‵ (flft κʷ qʷ) ∷ ‵ Input
             ∷ ‵ (flft κⁱ qⁱ) ∷ locals (take 5 env) (bare ∷ full input-slice ∷ full work-slice ∷ full table-slice ∷ full (vint w64 (length table)) ∷ [])
-            (‵ (fdies (ArrayTy (numbers w16) listNumbers) lists-block)
+            (‵ (fdies (ArrayTy (numbers w16) lookupNumbers) lists-block)
             ∷ locals (past 6 env) (bare ∷ bare ∷ bare ∷ bare ∷ bare ∷ full (G′.lowered g) ∷ work-loan (lists-loan [])) [])
 
         -- once `drive` has stopped, [the table; its token; the work; its token; the input's; local j at 5 + 2 * j]. What local 10 holds, and those from 25 on
@@ -357,7 +357,7 @@ module _ {M : Type 1} (𝓤 : URA M) (H : Heap 𝓤) (A : Atoms 𝓤) (W : Given
 
         -- the arm of a refusal
         refuses : (r : Refusal) (w lists : List ℕ) → Is G.the-row (BegunIs.Refused r) (G′.lowered (BegunIs.Refused r) ∷ []) → length w ≡ length work
-            → length lists ≡ listNumbers → Begins input work (length table) (BegunIs.Refused r) w lists
+            → length lists ≡ lookupNumbers → Begins input work (length table) (BegunIs.Refused r) w lists
             → Sq W (Begun-context (BegunIs.Refused r) w lists) (runs (𝓣 .C) (𝓣 .Λ) env body.t-8 (atRet env Post))
         refuses r w lists good long lists-long e =
             first ! $ by-variants ! 28 (whole !) (load ! (from ! (vrt ! refl (fld ! refl (stop !)))) (look-tag ! 28 (whole !))) tt (
@@ -368,8 +368,8 @@ module _ {M : Type 1} (𝓤 : URA M) (H : Heap 𝓤) (A : Atoms 𝓤) (W : Given
                   (init ! 38 refl (answer-typed (Refused r) (answer-good r good))) $
                   exec ! (𝓣 .C) (𝓣 .Λ) env body.t-9 (atRet env Post) $
                   sets ! 7 refl (of-opd ! (value ! 38 refl)) (answer-typed (Refused r) (answer-good r good)) $
-                  use1 W (‵ (froom (ArrayTy (numbers w16) listNumbers) lists-block 0))
-                  (array-room 𝓤 H A W (numbers w16) listNumbers lists-block lists lists-long) $
+                  use1 W (‵ (froom (ArrayTy (numbers w16) lookupNumbers) lists-block 0))
+                  (array-room 𝓤 H A W (numbers w16) lookupNumbers lists-block lists lists-long) $
                   move ! (span 7 10 ++ (0 ∷ span 17 51)) $
                   leaves ! (B′.lowered (Refused r)) (full _ ∷ full _ ∷ full _ ∷ full _ ∷ bare ∷ full _ ∷ bare ∷ bare ∷ bare ∷ bare ∷ full _ ∷ full _
                   ∷ full _ ∷ full _ ∷ full _ ∷ full _ ∷ []) $
@@ -380,7 +380,7 @@ module _ {M : Type 1} (𝓤 : URA M) (H : Heap 𝓤) (A : Atoms 𝓤) (W : Given
 
         -- the arm of a build that begins: the batch is made, the table, the work and the batch are lent to `drive`, and the lists shown
         goes-on : (s : State) (w lists : List ℕ) → Is G.the-row (BegunIs.Going s) (G′.lowered (BegunIs.Going s) ∷ []) → length w ≡ length work
-            → length lists ≡ listNumbers → Started input work (length table) s w lists
+            → length lists ≡ lookupNumbers → Started input work (length table) s w lists
             → Sq W (Begun-context (BegunIs.Going s) w lists) (runs (𝓣 .C) (𝓣 .Λ) env body.t-8 (atRet env Post))
         goes-on s w lists good long lists-long e =
             first ! $ by-variants ! 28 (whole !) (load ! (from ! (vrt ! refl (fld ! refl (stop !)))) (look-tag ! 28 (whole !))) tt (
@@ -402,7 +402,7 @@ module _ {M : Type 1} (𝓤 : URA M) (H : Heap 𝓤) (A : Atoms 𝓤) (W : Given
                     move ! (2 ∷ 3 ∷ []) $ lends ! tt Entry b o table (length table) refl (λ ν δ.
                     move ! (6 ∷ 7 ∷ []) $ lends ! tt u64 bʷ oʷ w (length work) long (λ νʷ δʷ.
                     move ! (8 ∷ []) $ lends-array ! tt (numbers w16) batch-block (copies batchNumbers 0) batchNumbers (lit< tt, lit< tt) (length-copies {X = ℕ} batchNumbers 0) (λ νᵇ δᵇ.
-                    move ! (11 ∷ []) $ shows-array ! tt (numbers w16) lists-block lists listNumbers (lit< tt, lit< tt) lists-long (λ νˡ δˡ.
+                    move ! (11 ∷ []) $ shows-array ! tt (numbers w16) lists-block lists lookupNumbers (lit< tt, lit< tt) lists-long (λ νˡ δˡ.
                     move ! (10 ∷ 15 ∷ 0 ∷ 6 ∷ 3 ∷ 11 ∷ 14 ∷ 1 ∷ 7 ∷ 4 ∷ []) $ group ! 10 $
                     use1 W (raw (Drive .pre (to-drive s w lists lists-block batch-block ν δ νˡ δˡ νʷ δʷ νᵇ δᵇ)))
                     (goes-drive s (state-good s good) w lists lists-block batch-block first-ready ν δ νˡ δˡ νʷ δʷ νᵇ δᵇ) $
@@ -424,8 +424,8 @@ module _ {M : Type 1} (𝓤 : URA M) (H : Heap 𝓤) (A : Atoms 𝓤) (W : Given
                     use1 W (‵ (froom (ArrayTy (numbers w16) batchNumbers) batch-block 0)) (array-room 𝓤 H A W (numbers w16) batchNumbers batch-block
                     (us .1 .1 .1 .1 .1 .0) (batch-long ∙ length-copies {X = ℕ} batchNumbers 0)) $
                     move ! (7 ∷ 9 ∷ []) $ array-shown ! tt (numbers w16) lists-block lists $
-                    use1 W (‵ (froom (ArrayTy (numbers w16) listNumbers) lists-block 0))
-                    (array-room 𝓤 H A W (numbers w16) listNumbers lists-block lists lists-long) $
+                    use1 W (‵ (froom (ArrayTy (numbers w16) lookupNumbers) lists-block 0))
+                    (array-room 𝓤 H A W (numbers w16) lookupNumbers lists-block lists lists-long) $
                     -- [the lists' room; the batch's; the work; its token; the table; its token; true; true; the input's token; the locals from 9 on]
                     keep ! (4 ∷ 5 ∷ 2 ∷ 3 ∷ 8 ∷ span 9 10 ++ (0 ∷ span 19 5 ++ (1 ∷ span 24 45))) $
                     land ! (from ! (stop !)) (init ! 23 refl (state-typed shape W e₂ good₂)) $
@@ -439,7 +439,7 @@ module _ {M : Type 1} (𝓤 : URA M) (H : Heap 𝓤) (A : Atoms 𝓤) (W : Given
                 ready input work table s w lists e (copies batchNumbers 0)
                 (subst (λ (n : ℕ). batchNumbers ≤ n) (sym (length-copies {X = ℕ} batchNumbers 0)) (omega arith))
 
-        arms : (g : Begun) (w lists : List ℕ) → Is G.the-row g (G′.lowered g ∷ []) → length w ≡ length work → length lists ≡ listNumbers
+        arms : (g : Begun) (w lists : List ℕ) → Is G.the-row g (G′.lowered g ∷ []) → length w ≡ length work → length lists ≡ lookupNumbers
             → Begins input work (length table) g w lists
             → Sq W (Begun-context g w lists) (runs (𝓣 .C) (𝓣 .Λ) env body.t-8 (atRet env Post))
         arms (BegunIs.Refused r) w lists good long lists-long e = refuses r w lists good long lists-long e
@@ -454,7 +454,7 @@ module _ {M : Type 1} (𝓤 : URA M) (H : Heap 𝓤) (A : Atoms 𝓤) (W : Given
           (λ bs. (slice-typed (input-room .0), (slice-typed (work-room .0), (slice-typed (table-room .0), tt)))) (λ bs.
           -- [local j at 2 * j; the tokens; what the parameters own]
           sets ! 8 refl (of-opd ! (part ! 6 refl refl refl)) (number-typed (table-room .0)) $
-          move ! (10 ∷ []) $ makes-array ! (numbers w16) listNumbers (lists-block bs) 0 (refl, lit< tt) (lit ! tt) (from ! (stop !)) $
+          move ! (10 ∷ []) $ makes-array ! (numbers w16) lookupNumbers (lists-block bs) 0 (refl, lit< tt) (lit ! tt) (from ! (stop !)) $
           -- [the lists; local j at 1 + 2 * j, for j below 5; that 5 dies; local j at 2 * j; the tokens; what the parameters own]
           sets ! 24 refl (elements ! 5 refl refl refl refl) (tt, tt) $
           sets ! 26 refl (agg ! (and-then ! (value ! 24 refl) (and-then ! (part ! 5 refl refl refl) (no-more !)))) (slice-typed (work-room .0)) $
@@ -465,7 +465,7 @@ module _ {M : Type 1} (𝓤 : URA M) (H : Heap 𝓤) (A : Atoms 𝓤) (W : Given
           move ! (4 ∷ []) $ fsplit ! $ move ! (1 ∷ []) $ fsplit ! $ move ! (1 ∷ []) $ fsplit ! $
           -- [the table; true; the work; the input; the table's token; true; the input's; the work's; the lists; the locals from 9 on]
           move ! (2 ∷ 7 ∷ []) $ lends ! tt u64 bʷ oʷ work (length work) refl (λ ν δ.
-          move ! (10 ∷ []) $ lends-array ! tt (numbers w16) (lists-block bs) (copies listNumbers 0) listNumbers (lit< tt, lit< tt) (length-copies {X = ℕ} listNumbers 0) (λ νˡ δˡ.
+          move ! (10 ∷ []) $ lends-array ! tt (numbers w16) (lists-block bs) (copies lookupNumbers 0) lookupNumbers (lit< tt, lit< tt) (length-copies {X = ℕ} lookupNumbers 0) (λ νˡ δˡ.
           move ! (9 ∷ []) $ use1 W (‵ Input ⊛ ‵ Input) (shr-slice-copy 𝓤 H A W (named 0) κⁱ u8 .twice (at-list u8 bⁱ oⁱ γⁱ input) (input-slice ∷ [])) $
           split ! $ move ! (13 ∷ 5 ∷ 2 ∷ 0 ∷ 6 ∷ 3 ∷ []) $ group ! 6 $
           use1 W (raw (Begin .pre (to-begin (lists-block bs) ν δ νˡ δˡ))) (goes-begin (table-room .0) (lists-block bs) enough ν δ νˡ δˡ) $
@@ -478,14 +478,14 @@ module _ {M : Type 1} (𝓤 : URA M) (H : Heap 𝓤) (A : Atoms 𝓤) (W : Given
           move ! (4 ∷ []) $ fsplit ! $ drop ! $ fsplit ! $ fsplit ! $ move ! (1 ∷ []) $ feqL ! (λ work-long.
           move ! (1 ∷ []) $ fsplit ! $ fsplit ! $ move ! (1 ∷ []) $ feqL ! (λ lists-long.
           -- [the last of the lists; nothing of the number; the work's last list; the lists' token; true; the input's; the work's; the input; the lists' loan; the work's; who waits; the table; true; its token; true; the locals from 15 on]
-          move ! (3 ∷ 0 ∷ 8 ∷ []) $ array-back ! tt (numbers w16) (lists-block bs) (copies listNumbers 0) (us .1 .1 .0) $
+          move ! (3 ∷ 0 ∷ 8 ∷ []) $ array-back ! tt (numbers w16) (lists-block bs) (copies lookupNumbers 0) (us .1 .1 .0) $
           move ! (5 ∷ 2 ∷ 7 ∷ 8 ∷ []) $ has-back ! tt u64 bʷ oʷ work (us .1 .0) (length work) work-room refl work-long $
           keep ! (2 ∷ 7 ∷ 9 ∷ 0 ∷ 1 ∷ 6 ∷ 5 ∷ span 11 61) $
           land ! (from ! (stop !)) (init ! 28 refl (begun-typed g good)) $
-          arms bs g (us .1 .0) (us .1 .1 .0) good work-long (lists-long ∙ length-copies {X = ℕ} listNumbers 0) e)))))))
+          arms bs g (us .1 .0) (us .1 .1 .0) good work-long (lists-long ∙ length-copies {X = ℕ} lookupNumbers 0) e)))))))
         where
-          enough : listNumbers ≤ length (copies {X = ℕ} listNumbers 0)
-          enough = subst (λ (n : ℕ). listNumbers ≤ n) (sym (length-copies {X = ℕ} listNumbers 0)) (omega arith)
+          enough : lookupNumbers ≤ length (copies {X = ℕ} lookupNumbers 0)
+          enough = subst (λ (n : ℕ). lookupNumbers ≤ n) (sym (length-copies {X = ℕ} lookupNumbers 0)) (omega arith)
 
 pub build-spec : {M : Type 1} → stated.statement M
 unfolding code.routine tablesOf

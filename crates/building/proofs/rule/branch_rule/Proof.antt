@@ -1,28 +1,36 @@
 -- `rule::branch_rule` runs all splits of a branch rule. A rule with no mark on the right makes
 -- nothing. The loop's invariant: the left flags before the marks that are left are done.
-use mathlib.Core.List.{List}
-use mathlib.Core.Logic.{⊎-elim}
-use mathlib.Core.Path.{_∙_, _≡_, subst₃, sym}
-use Prim.Native.Nat.{_+_, ℕ}
+use mathlib.Core.Path.{_∙_}
+use Prim.Native.Nat.{ℕ}
 use native.Mathlib.Omega.{arith}
 use lib.Count.{trailing-le}
-use lib.ListN.{length}
-use Rattle.paper.specs.Lists.{each, upTo}
-use Rattle.building.specs.Rules.{Runs, flagsAt}
+use Rattle.building.specs.Slots.{marksAt}
+use Rattle.building.specs.Splits.{Free}
 use Rattle.building.proofs.Marks.{fewer-marks, firstMark}
-use Rattle.building.proofs.Turns.{LeftLoop, LeftTurn, beside-few, beside-marks, beside-room, left-ends, left-onward, left-starts, left-turn, right-none}
-use Rattle.building.proofs.Turns.{some-flag, with-left, without-left}
+use Rattle.building.proofs.Turns.{LeftLoop, LeftTurn, beside-few, beside-room, left-apart-first, left-ends, left-onward, left-starts}
+use Rattle.building.proofs.Turns.{left-turn, right-none, size-small, some-flag, with-left}
 use Rattle.building.proofs.rule.branch_rule.Statement.{statement}
 use Rattle.building.proofs.rule.branch_rule.Tie as tie
 
 abbrev Inv-loop : tie.InvT-loop
-Inv-loop batch₀ work₀ k rule left right marked count₀ marks₀ batch work count marks = LeftLoop rule k batch₀ work₀ marks count batch work
+Inv-loop batch₀ work₀ notes k rule left right count₀ marks₀ batch work count marks = LeftLoop rule k batch₀ work₀ marks₀ marks count batch work
 
 abbrev μ-loop : tie.MeasureT-loop
-μ-loop batch₀ work₀ k rule left right marked count₀ marks₀ batch work count marks = marks
+μ-loop batch₀ work₀ notes k rule left right count₀ marks₀ batch work count marks = marks
+
+-- what is walked
+abbrev begin : tie.After-free-marks Inv-loop μ-loop → tie.Start Inv-loop μ-loop
+begin c = c .before .before .before .before .before .before .before
+
+walked-free : (c : tie.After-free-marks Inv-loop μ-loop)
+    → let a = (begin c) .args in
+    Free (a .rule .size) (a .rule .own) (marksAt (a .work .now) (a .rule .left)) (c .free-marks .result)
+walked-free c =
+    let room = (begin c) .pre .0 .0 in
+    c .free-marks .ensures ((begin c) .args .rule .size) ((begin c) .pre .0 .1) (room .own-flag) (room .left-marked .few)
 
 abbrev start : tie.In-loop Inv-loop μ-loop → tie.Start Inv-loop μ-loop
-start c = c .before .before .before .before .before .before .before
+start c = begin (c .before .before)
 
 -- the flag at hand
 abbrev flag : tie.In-loop Inv-loop μ-loop → ℕ
@@ -33,70 +41,69 @@ turn : (c : tie.In-loop Inv-loop μ-loop)
     → let a = (start c) .args in
     let l = c .before .loop in
     LeftTurn (a .rule) (a .k) (a .batch .now) (a .work .now) (flag c) (l .count) (l .batch) (l .work)
-turn c = left-turn ((start c) .pre .0) (c .before .loop .inv) (c .loop-test .taken)
+turn c = left-turn ((start c) .pre .0 .0) (walked-free (c .before .before)) (c .before .loop .inv) (c .loop-test .taken)
 
--- the splits after it
-abbrev Next : tie.In-loop Inv-loop μ-loop → List ℕ → List ℕ → ℕ → Type 0
-Next c batch work count =
-    let a = (start c) .args in
-    (length batch ≡ length (a .batch .now)) × (length work ≡ length (a .work .now))
-    × Runs (each (upTo (flag c + 1)) (flagsAt (a .rule .own) (a .rule .size))) (a .rule) (a .k) (a .batch .now) (a .work .now) count batch work
-
-mul-marked : tie.Need-mul-marked Inv-loop μ-loop
-mul-marked c =
-    let begin = c .before .before in
-    let r = begin .pre .0 in
+mul-if1 : tie.Need-mul-if1 Inv-loop μ-loop
+mul-if1 c =
+    let begin = c .before .before .before in
+    let r = begin .pre .0 .0 in
     omega (arith, r .right-before, r .within, begin .good)
 
-slice-read-marked : tie.Need-slice-read-marked Inv-loop μ-loop
-slice-read-marked c =
-    let r = c .before .before .before .pre .0 in
+slice-read-if1 : tie.Need-slice-read-if1 Inv-loop μ-loop
+slice-read-if1 c =
+    let r = c .before .before .before .before .pre .0 .0 in
     omega (arith, r .right-before, r .within, some-flag _ (r .flags))
 
 returns : tie.Need-returns Inv-loop μ-loop
-returns c = right-none (c .before .before .before .before .pre .0) (c .if1 .taken)
+returns c = right-none (c .before .before .before .before .before .pre .0 .0) (c .if1 .taken)
 
-mul-marks : tie.Need-mul-marks Inv-loop μ-loop
-mul-marks c =
-    let begin = c .before .before .before .before in
-    let r = begin .pre .0 in
+mul-free-marks : tie.Need-mul-free-marks Inv-loop μ-loop
+mul-free-marks c =
+    let begin = c .before .before .before .before .before in
+    let r = begin .pre .0 .0 in
     omega (arith, r .left-before, r .within, begin .good)
 
-slice-read-marks : tie.Need-slice-read-marks Inv-loop μ-loop
-slice-read-marks c =
-    let r = c .before .before .before .before .before .pre .0 in
+slice-read-free-marks : tie.Need-slice-read-free-marks Inv-loop μ-loop
+slice-read-free-marks c =
+    let r = c .before .before .before .before .before .before .pre .0 .0 in
     omega (arith, r .left-before, r .within, some-flag _ (r .flags))
 
+free-marks-requires : tie.Need-free-marks-requires Inv-loop μ-loop
+free-marks-requires c κs =
+    let pre = c .before .before .before .before .before .before .pre in
+    (omega (arith, pre .0 .0 .own-flag, size-small _ (pre .0 .0 .flags)), pre .0 .1 .room)
+
 loop-holds : tie.Need-loop-holds Inv-loop μ-loop
-loop-holds c = left-starts (c .before .before .before .before .before .pre .0)
+loop-holds c = left-starts ((begin c) .pre .0 .0) (walked-free c)
 
 cast-b1 : tie.Need-cast-b1 Inv-loop μ-loop
 cast-b1 c = omega (arith, trailing-le 64 (c .before .loop .marks))
 
 beside-requires : tie.Need-beside-requires Inv-loop μ-loop
 beside-requires c κs =
-    let there = c .before .before in
-    let t = there .before .before in
+    let t = c .before .before in
     let s = turn t in
-    (beside-room s, ((s .left-flag, there .if2 .taken), (beside-few s ((start t) .pre .1), beside-marks s)))
+    let pre = (start t) .pre in
+    let apart = left-apart-first (pre .0 .0) (walked-free (t .before .before)) (t .before .loop .inv) (t .loop-test .taken) in
+    ((beside-room s, pre .0 .1), ((s .left-flag, apart), beside-few s (pre .1)))
+
+-- the turn, behind its call
+abbrev here : tie.After-slice-known6 Inv-loop μ-loop → tie.In-loop Inv-loop μ-loop
+here c = c .before .before .before .before .before .before .before
 
 sub-marks : tie.Need-sub-marks Inv-loop μ-loop
-sub-marks c = omega (arith, c .before .before .loop-test .taken)
+sub-marks c = omega (arith, (here c) .loop-test .taken)
 
 loop-less : tie.Need-loop-less Inv-loop μ-loop
-loop-less c = fewer-marks _ (c .before .before .loop-test .taken)
+loop-less c = fewer-marks _ ((here c) .loop-test .taken)
 
 loop-again : tie.Need-loop-again Inv-loop μ-loop
 loop-again c =
-    let t = c .before .before in
+    let t = here c in
     let s = turn t in
-    let next =
-    ⊎-elim
-    (λ w. subst₃ (Next t) (sym (w .8)) (sym (w .9)) (sym (w .10))
-    (w .3 .kept .0 ∙ s .batch-kept, w .3 .kept .1 .0 ∙ s .work-kept, with-left s _ _ _ (w .3 .ensures)))
-    (λ w. subst₃ (Next t) (sym (w .1)) (sym (w .2)) (sym (w .3)) (s .batch-kept, s .work-kept, without-left s (w .0 .left)))
-    (c .if2 .came) in
-    left-onward ((start t) .pre .0) (t .before .loop .inv) (t .loop-test .taken) (next .0) (next .1) (next .2)
+    let done = c .before .before .before .before .beside in
+    left-onward ((start t) .pre .0 .0) (walked-free (t .before .before)) (t .before .loop .inv) (t .loop-test .taken)
+    (done .kept .0 ∙ s .batch-kept) (done .kept .1 .0 ∙ s .work-kept) (with-left s _ _ _ (done .ensures))
 
 same-length : tie.Need-same-length Inv-loop μ-loop
 same-length c = c .before .loop .inv .batch-kept
@@ -105,7 +112,7 @@ same-length-2 : tie.Need-same-length-2 Inv-loop μ-loop
 same-length-2 c = c .before .loop .inv .work-kept
 
 returns-2 : tie.Need-returns-2 Inv-loop μ-loop
-returns-2 c = left-ends (c .before .before .before .before .before .before .before .pre .0) (c .before .loop .inv) (c .loop-test .left)
+returns-2 c = left-ends ((begin (c .before .before)) .pre .0 .0) (walked-free (c .before .before)) (c .before .loop .inv) (c .loop-test .left)
 
 pub branch-rule-spec : {M : Type 1} → statement M
 branch-rule-spec =
@@ -113,11 +120,12 @@ branch-rule-spec =
     (tie.spec
     Inv-loop
     μ-loop
-    mul-marked
-    slice-read-marked
+    mul-if1
+    slice-read-if1
     returns
-    mul-marks
-    slice-read-marks
+    mul-free-marks
+    slice-read-free-marks
+    free-marks-requires
     loop-holds
     cast-b1
     beside-requires

@@ -1,0 +1,78 @@
+-- Marked flags that share no bit with one, by the notes. First the marks of two masks together, then that the mask of the notes leaves
+-- these flags and no other, and that nothing need be left out where no marked flag shares a bit.
+use mathlib.Core.Bool.{Bool, cond, false, true}
+use mathlib.Core.List.{List}
+use mathlib.Core.Logic.{_⊎_, inl, inr}
+use mathlib.Core.Path.{_∙_, _≡_, ap, refl, sym}
+use Prim.Native.Nat.{_/_, _<_, _%_, _^_, ℕ}
+use native.Mathlib.Nat.{mod-lt}
+use native.Mathlib.Omega.{arith}
+use borrow.Author.Tests.{eqb-false, eqb-true}
+use lib.Bits.{and-le-l, and-le-r, and-mask, and-mod, and-shr, bitAnd}
+use Rattle.paper.specs.Sound.{apart}
+use Rattle.building.specs.Slots.{markAt}
+use Rattle.building.specs.Splits.{Free, Noted, clashAt, freeAt}
+use Rattle.building.proofs.Marks.{no-mark}
+
+-- ---- a mark of two masks together
+and-marks : (m k b : ℕ) → markAt (bitAnd m k) b ≡ bitAnd (markAt m b) (markAt k b)
+and-marks m k b = ap (λ x. x % 2) (and-shr m k b) ∙ and-mod (m / 2 ^ b) (k / 2 ^ b) 1
+
+one-digit : (m b : ℕ) → markAt m b < 2
+one-digit m b = mod-lt (m / 2 ^ b) (omega arith)
+
+-- beside a mark the other decides
+beside-one : (m b : ℕ) → bitAnd (markAt m b) 1 ≡ markAt m b
+beside-one m b = and-mask (markAt m b) 1 ∙ omega (arith, one-digit m b)
+
+-- ---- the notes
+module _ {size : ℕ} {notes : List ℕ} (noted : Noted size notes) {taken : ℕ} (below : taken < size) (marked : ℕ) (few : marked < 2 ^ size) where
+  pub free-masked : Free size taken marked (bitAnd marked (freeAt notes taken))
+  free-masked = record { few = omega (arith, and-le-l marked (freeAt notes taken)); takes = takes; skips = skips }
+    where
+      takes : (b : ℕ) → b < size → markAt (bitAnd marked (freeAt notes taken)) b ≡ 1 → bitAnd taken b ≡ 0
+      takes b h e = go (apart taken b) refl
+        where
+          go : (c : Bool) → apart taken b ≡ c → bitAnd taken b ≡ 0
+          go true a = eqb-true (bitAnd taken b) 0 a
+          go false a =
+              absurd
+              (omega (
+                arith,
+                e,
+                and-marks marked (freeAt notes taken) b,
+                and-le-r (markAt marked b) (markAt (freeAt notes taken) b),
+                noted .free taken b below h ∙ ap (λ x. cond x 1 0) a,
+              ))
+
+      skips : (b : ℕ) → b < size → markAt (bitAnd marked (freeAt notes taken)) b ≡ 0 → (markAt marked b ≡ 0) ⊎ (bitAnd taken b ≡ 0 → ⊥)
+      skips b h e = go (apart taken b) refl
+        where
+          go : (c : Bool) → apart taken b ≡ c → (markAt marked b ≡ 0) ⊎ (bitAnd taken b ≡ 0 → ⊥)
+          go true a =
+              inl
+              (sym (beside-one marked b)
+              ∙ ap (bitAnd (markAt marked b)) (sym (noted .free taken b below h ∙ ap (λ x. cond x 1 0) a))
+              ∙ sym (and-marks marked (freeAt notes taken) b)
+              ∙ e)
+          go false a = inr (eqb-false (bitAnd taken b) 0 a)
+
+  pub none-clashes : bitAnd marked (clashAt notes taken) ≡ 0 → Free size taken marked marked
+  none-clashes e = record { few = few; takes = takes; skips = λ b h w. inl w }
+    where
+      takes : (b : ℕ) → b < size → markAt marked b ≡ 1 → bitAnd taken b ≡ 0
+      takes b h w = go (apart taken b) refl
+        where
+          go : (c : Bool) → apart taken b ≡ c → bitAnd taken b ≡ 0
+          go true a = eqb-true (bitAnd taken b) 0 a
+          go false a =
+              absurd
+              (omega (
+                arith,
+                w,
+                sym (beside-one marked b)
+                    ∙ ap (bitAnd (markAt marked b)) (sym (noted .clash taken b below h ∙ ap (λ x. cond x 0 1) a))
+                    ∙ sym (and-marks marked (clashAt notes taken) b)
+                    ∙ ap (λ x. markAt x b) e
+                    ∙ no-mark b,
+              ))
