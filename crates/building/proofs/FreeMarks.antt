@@ -8,7 +8,7 @@ use Prim.Native.Nat.{_/_, _<_, _%_, _^_, ℕ}
 use native.Mathlib.Nat.{mod-lt}
 use native.Mathlib.Omega.{arith}
 use borrow.Author.Tests.{eqb-false, eqb-true}
-use lib.Bits.{and-le-l, and-le-r, and-mask, and-mod, and-shr, bitAnd}
+use lib.Bits.{and-le-r, and-mask, and-mod, and-shr, bitAnd}
 use Rattle.paper.specs.Sound.{apart}
 use Rattle.building.specs.Slots.{markAt}
 use Rattle.building.specs.Splits.{Free, Noted, clashAt, freeAt}
@@ -26,9 +26,9 @@ beside-one : (m b : ℕ) → bitAnd (markAt m b) 1 ≡ markAt m b
 beside-one m b = and-mask (markAt m b) 1 ∙ omega (arith, one-digit m b)
 
 -- ---- the notes
-module _ {size : ℕ} {notes : List ℕ} (noted : Noted size notes) {taken : ℕ} (below : taken < size) (marked : ℕ) (few : marked < 2 ^ size) where
+module _ {size : ℕ} {notes : List ℕ} (noted : Noted size notes) {taken : ℕ} (below : taken < size) (marked : ℕ) where
   pub free-masked : Free size taken marked (bitAnd marked (freeAt notes taken))
-  free-masked = record { few = omega (arith, and-le-l marked (freeAt notes taken)); takes = takes; skips = skips }
+  free-masked = record { few = omega (arith, and-le-r marked (freeAt notes taken), noted .few taken below); takes = takes; skips = skips }
     where
       takes : (b : ℕ) → b < size → markAt (bitAnd marked (freeAt notes taken)) b ≡ 1 → bitAnd taken b ≡ 0
       takes b h e = go (apart taken b) refl
@@ -57,8 +57,8 @@ module _ {size : ℕ} {notes : List ℕ} (noted : Noted size notes) {taken : ℕ
               ∙ e)
           go false a = inr (eqb-false (bitAnd taken b) 0 a)
 
-  pub none-clashes : bitAnd marked (clashAt notes taken) ≡ 0 → Free size taken marked marked
-  none-clashes e = record { few = few; takes = takes; skips = λ b h w. inl w }
+  pub none-clashes : marked < 2 ^ size → bitAnd marked (clashAt notes taken) ≡ 0 → Free size taken marked marked
+  none-clashes few e = record { few = few; takes = takes; skips = λ b h w. inl w }
     where
       takes : (b : ℕ) → b < size → markAt marked b ≡ 1 → bitAnd taken b ≡ 0
       takes b h w = go (apart taken b) refl

@@ -68,7 +68,7 @@ pub(crate) fn note(notes: &mut [u16], size: usize)
 // Of the marked flags those that share no bit with `taken`.
 pub(crate) fn free_marks(notes: &[u16], taken: usize, marked: u64) -> u64
     requires { ⌜ (taken < mostFlags) × (noteNumbers ≤ length (now notes)) ⌝ }
-    ensures { λ r. ⌜ ((size : ℕ) → Noted size (now (notes .entry)) → taken < size → marked < 2 ^ size → Free size taken marked r) ⌝ }
+    ensures { λ r. ⌜ ((size : ℕ) → Noted size (now (notes .entry)) → taken < size → Free size taken marked r) ⌝ }
 {
     marked & (notes[taken] as u64)
 }

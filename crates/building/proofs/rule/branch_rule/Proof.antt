@@ -27,7 +27,7 @@ walked-free : (c : tie.After-free-marks Inv-loop μ-loop)
     Free (a .rule .size) (a .rule .own) (marksAt (a .work .now) (a .rule .left)) (c .free-marks .result)
 walked-free c =
     let room = (begin c) .pre .0 .0 in
-    c .free-marks .ensures ((begin c) .args .rule .size) ((begin c) .pre .0 .1) (room .own-flag) (room .left-marked .few)
+    c .free-marks .ensures ((begin c) .args .rule .size) ((begin c) .pre .0 .1) (room .own-flag)
 
 abbrev start : tie.In-loop Inv-loop μ-loop → tie.Start Inv-loop μ-loop
 start c = begin (c .before .before)

@@ -14,7 +14,7 @@ cast-result : tie.Need-cast-result
 cast-result c = omega (arith, c .shared-slice-known .given (c .before .args .taken))
 
 returns : tie.Need-returns
-returns c size noted below few = free-masked noted below (c .before .args .marked) few
+returns c size noted below = free-masked noted below (c .before .args .marked)
 
 pub free-marks-spec : {M : Type 1} → statement M
 free-marks-spec = tie.close (tie.spec mul-result shared-slice-read-result cast-result returns)
