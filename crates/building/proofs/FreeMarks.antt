@@ -8,10 +8,10 @@ use Prim.Native.Nat.{_/_, _<_, _%_, _^_, ℕ}
 use native.Mathlib.Nat.{mod-lt}
 use native.Mathlib.Omega.{arith}
 use borrow.Author.Tests.{eqb-false, eqb-true}
-use lib.Bits.{and-le-r, and-mask, and-mod, and-shr, bitAnd}
+use lib.Bits.{and-le-l, and-le-r, and-mask, and-mod, and-shr, bitAnd}
 use Rattle.paper.specs.Sound.{apart}
 use Rattle.building.specs.Slots.{markAt}
-use Rattle.building.specs.Splits.{Free, Noted, clashAt, freeAt}
+use Rattle.building.specs.Splits.{Free, Noted, sharedAt, freeAt}
 use Rattle.building.proofs.Marks.{no-mark}
 
 -- ---- a mark of two masks together
@@ -26,53 +26,62 @@ beside-one : (m b : ℕ) → bitAnd (markAt m b) 1 ≡ markAt m b
 beside-one m b = and-mask (markAt m b) 1 ∙ omega (arith, one-digit m b)
 
 -- ---- the notes
-module _ {size : ℕ} {notes : List ℕ} (noted : Noted size notes) {taken : ℕ} (below : taken < size) (marked : ℕ) where
-  pub free-masked : Free size taken marked (bitAnd marked (freeAt notes taken))
-  free-masked = record { few = omega (arith, and-le-r marked (freeAt notes taken), noted .few taken below); takes = takes; skips = skips }
+module _ {size : ℕ} {notes : List ℕ} (noted : Noted size notes) {flag : ℕ} (below : flag < size) (marked : ℕ) where
+  pub free-masked : Free size flag marked (bitAnd marked (freeAt notes flag))
+  free-masked = record { few = omega (arith, and-le-r marked (freeAt notes flag), noted .masks flag below .few); takes = takes; skips = skips }
     where
-      takes : (b : ℕ) → b < size → markAt (bitAnd marked (freeAt notes taken)) b ≡ 1 → bitAnd taken b ≡ 0
-      takes b h e = go (apart taken b) refl
+      takes : (b : ℕ) → b < size → markAt (bitAnd marked (freeAt notes flag)) b ≡ 1 → (markAt marked b ≡ 1) × (bitAnd flag b ≡ 0)
+      takes b h e = (
+        omega (
+          arith,
+          e,
+          and-marks marked (freeAt notes flag) b,
+          and-le-l (markAt marked b) (markAt (freeAt notes flag) b),
+          one-digit marked b,
+        ),
+        go (apart flag b) refl,
+      )
         where
-          go : (c : Bool) → apart taken b ≡ c → bitAnd taken b ≡ 0
-          go true a = eqb-true (bitAnd taken b) 0 a
+          go : (c : Bool) → apart flag b ≡ c → bitAnd flag b ≡ 0
+          go true a = eqb-true (bitAnd flag b) 0 a
           go false a =
               absurd
               (omega (
                 arith,
                 e,
-                and-marks marked (freeAt notes taken) b,
-                and-le-r (markAt marked b) (markAt (freeAt notes taken) b),
-                noted .free taken b below h ∙ ap (λ x. cond x 1 0) a,
+                and-marks marked (freeAt notes flag) b,
+                and-le-r (markAt marked b) (markAt (freeAt notes flag) b),
+                noted .masks flag below .beside b h ∙ ap (λ x. cond x 1 0) a,
               ))
 
-      skips : (b : ℕ) → b < size → markAt (bitAnd marked (freeAt notes taken)) b ≡ 0 → (markAt marked b ≡ 0) ⊎ (bitAnd taken b ≡ 0 → ⊥)
-      skips b h e = go (apart taken b) refl
+      skips : (b : ℕ) → b < size → markAt (bitAnd marked (freeAt notes flag)) b ≡ 0 → (markAt marked b ≡ 0) ⊎ (bitAnd flag b ≡ 0 → ⊥)
+      skips b h e = go (apart flag b) refl
         where
-          go : (c : Bool) → apart taken b ≡ c → (markAt marked b ≡ 0) ⊎ (bitAnd taken b ≡ 0 → ⊥)
+          go : (c : Bool) → apart flag b ≡ c → (markAt marked b ≡ 0) ⊎ (bitAnd flag b ≡ 0 → ⊥)
           go true a =
               inl
               (sym (beside-one marked b)
-              ∙ ap (bitAnd (markAt marked b)) (sym (noted .free taken b below h ∙ ap (λ x. cond x 1 0) a))
-              ∙ sym (and-marks marked (freeAt notes taken) b)
+              ∙ ap (bitAnd (markAt marked b)) (sym (noted .masks flag below .beside b h ∙ ap (λ x. cond x 1 0) a))
+              ∙ sym (and-marks marked (freeAt notes flag) b)
               ∙ e)
-          go false a = inr (eqb-false (bitAnd taken b) 0 a)
+          go false a = inr (eqb-false (bitAnd flag b) 0 a)
 
-  pub none-clashes : marked < 2 ^ size → bitAnd marked (clashAt notes taken) ≡ 0 → Free size taken marked marked
-  none-clashes few e = record { few = few; takes = takes; skips = λ b h w. inl w }
+  pub none-shared : marked < 2 ^ size → bitAnd marked (sharedAt notes flag) ≡ 0 → Free size flag marked marked
+  none-shared few e = record { few = few; takes = takes; skips = λ b h w. inl w }
     where
-      takes : (b : ℕ) → b < size → markAt marked b ≡ 1 → bitAnd taken b ≡ 0
-      takes b h w = go (apart taken b) refl
+      takes : (b : ℕ) → b < size → markAt marked b ≡ 1 → (markAt marked b ≡ 1) × (bitAnd flag b ≡ 0)
+      takes b h w = (w, go (apart flag b) refl)
         where
-          go : (c : Bool) → apart taken b ≡ c → bitAnd taken b ≡ 0
-          go true a = eqb-true (bitAnd taken b) 0 a
+          go : (c : Bool) → apart flag b ≡ c → bitAnd flag b ≡ 0
+          go true a = eqb-true (bitAnd flag b) 0 a
           go false a =
               absurd
               (omega (
                 arith,
                 w,
                 sym (beside-one marked b)
-                    ∙ ap (bitAnd (markAt marked b)) (sym (noted .clash taken b below h ∙ ap (λ x. cond x 0 1) a))
-                    ∙ sym (and-marks marked (clashAt notes taken) b)
+                    ∙ ap (bitAnd (markAt marked b)) (sym (noted .masks flag below .sharing b h ∙ ap (λ x. cond x 0 1) a))
+                    ∙ sym (and-marks marked (sharedAt notes flag) b)
                     ∙ ap (λ x. markAt x b) e
                     ∙ no-mark b,
               ))

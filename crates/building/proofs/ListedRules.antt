@@ -58,7 +58,6 @@ module _ (lists rest : List ℕ) (long : listNumbers ≤ length lists) where
   part-behind = ap (λ n. drop n (take listNumbers lists ++ rest)) (sym before) ∙ drop-append-seam (take listNumbers lists) rest
 
 -- ---- the rules of the present node
-
 module _ (input : List ℕ) (t : State) (work : List ℕ) (made : List Record) (s : Standing input t work made) (here : t .rule < length input)
     {lists : List ℕ} (listed : Listed input lists) where
   passed : recordsOf (drop (t .rules) input) ≡ s .rule .passed ++ recordsOf (drop (t .rule) input)

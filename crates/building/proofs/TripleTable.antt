@@ -18,9 +18,9 @@ use Rattle.paper.specs.Sound.{apart}
 use Rattle.laws.proofs.Lists.{in-at, mem-each, mem-upTo, not-then-false}
 use Rattle.laws.proofs.Splits.{mem-flagsBeside}
 use Rattle.stream.proofs.Table.{at-entry}
-use Rattle.building.specs.Bounds.{mostFlags, mostPlaces}
-use Rattle.building.specs.Rules.{pairAt}
-use Rattle.building.specs.Splits.{Masked, allTriples, clashAt, freeAt, leftAt, noteNumbers, packed, pairOf, triplesOf}
+use Rattle.building.specs.Bounds.{mostFlags, mostPlaces, ruleSplits}
+use Rattle.building.specs.Rules.{flagsAt, pairAt}
+use Rattle.building.specs.Splits.{Masked, allTriples, freeAt, leftAt, noteNumbers, packed, sharedAt, tripleCount, triplesOf}
 use Rattle.building.proofs.Marks.{Mask, mask-marked, mask-starts, mask-unmarked}
 use Rattle.building.proofs.Running.{each-le, each-upTo}
 
@@ -49,7 +49,7 @@ pub the-triples : triples ≡ allTriples
 the-triples = refl
 
 -- so many
-count : length allTriples ≡ 256
+count : length allTriples ≡ tripleCount
 count = ap length (sym the-triples)
 
 -- the table of lefts, as the source has it
@@ -81,7 +81,7 @@ module _ {B : Type 0} (f : ℕ → List B) where
       )
 
   -- the list of n is behind those of the numbers below n
-  pub each-around : (n m : ℕ) → n < m → (rest : List B) × (each (upTo m) f ≡ each (upTo n) f ++ (f n ++ rest))
+  each-around : (n m : ℕ) → n < m → (rest : List B) × (each (upTo m) f ≡ each (upTo n) f ++ (f n ++ rest))
   each-around n m h =
       let (rest, e) = past n (m - (n + 1)) in
       (rest, ap (λ k. each (upTo k) f) (let z : m ≡ n + 1 + (m - (n + 1)) = omega arith in z) ∙ e)
@@ -97,140 +97,139 @@ entry-is m =
     (first, w, mem-upTo mostFlags mf, left-lt, right-lt, outer, e)
 
 -- so it has three hex digits
-pub entry-small : (table : List ℕ) → table ≡ allTriples → (i : ℕ) → i < 256 → getD table i 0 < 4096
+pub entry-small : (table : List ℕ) → table ≡ allTriples → (i : ℕ) → i < tripleCount → getD table i 0 < mostFlags ^ 3
 entry-small table whole i h =
     let m : getD allTriples i 0 ∈ allTriples = in-at 0 allTriples i (omega (arith, count)) in
     let (first, w, first-lt, left-lt, right-lt, outer, e) = entry-is m in
     rw whole (omega arith)
 
 -- ---- the masks of a flag
--- with no own flag: the pairs of a left flag, the right ones below n
-abbrev pairsOf : ℕ → ℕ → List (ℕ × ℕ)
-pairsOf n left = each (upTo n) (pairOf left)
-
--- these are the paper's
-pair-of : (left right : ℕ) → pairAt 0 left right ≡ pairOf left right
+-- with no own flag a left flag and a right one are a pair of the paper if they share no bit
+pair-of : (left right : ℕ) → pairAt 0 left right ≡ cond (apart left right) ((left, right) ∷ []) []
 pair-of left right = rw (and-zero-l left, (let z : 0 + left ≡ left = omega arith in z))
 
-no-own : flagsBeside mostPlaces 0 ≡ each (upTo mostFlags) (pairsOf mostFlags)
-no-own = λ i. each (upTo mostFlags) (λ left. each (upTo mostFlags) (λ right. pair-of left right i))
-
--- the place at hand for b: behind the triples of the left flags below taken, and of taken itself with a right flag below b
-abbrev pub placeAt : ℕ → ℕ → ℕ
-placeAt taken b = leftAt taken + length (pairsOf b taken)
+-- the place at hand for b: behind the triples of the left flags below flag, and of flag itself with a right flag below b
+abbrev placeAt : ℕ → ℕ → ℕ
+placeAt flag b = leftAt flag + length (flagsAt 0 b flag)
 
 -- the place at hand for the next right flag
-module _ (taken b : ℕ) where
-  next-place : placeAt taken (b + 1) ≡ placeAt taken b + length (pairOf taken b)
-  next-place = omega (arith, ap length (each-upTo (pairOf taken) b), length-append (pairsOf b taken) (pairOf taken b))
+module _ (flag b : ℕ) where
+  next-place : placeAt flag (b + 1) ≡ placeAt flag b + length (cond {A = List (ℕ × ℕ)} (apart flag b) ((flag, b) ∷ []) [])
+  next-place =
+      omega (
+        arith,
+        ap length (each-upTo (pairAt 0 flag) b),
+        length-append (flagsAt 0 b flag) (pairAt 0 flag b),
+        ap length (pair-of flag b),
+      )
 
-  pub place-apart : apart taken b ≡ true → placeAt taken (b + 1) ≡ placeAt taken b + 1
+  pub place-apart : apart flag b ≡ true → placeAt flag (b + 1) ≡ placeAt flag b + 1
   place-apart e = next-place ∙ rw e
 
-  pub place-shared : apart taken b ≡ false → placeAt taken (b + 1) ≡ placeAt taken b
+  pub place-shared : apart flag b ≡ false → placeAt flag (b + 1) ≡ placeAt flag b
   place-shared e = next-place ∙ rw e (omega arith)
 
 -- what stands at it
-module _ (taken b : ℕ) (t : taken < mostFlags) (l : b < mostFlags) where
-  -- the pairs before it: those of the left flags below taken, and those of taken
+module _ (flag b : ℕ) (t : flag < mostFlags) (l : b < mostFlags) where
+  -- the pairs before it: those of the left flags below flag, and those of flag
   abbrev passed : List (ℕ × ℕ)
-  passed = each (upTo taken) (pairsOf mostFlags) ++ pairsOf b taken
+  passed = each (upTo flag) (flagsAt 0 mostFlags) ++ flagsAt 0 b flag
 
   -- the pairs, cut there
-  cut-pairs : apart taken b ≡ true → (after : List (ℕ × ℕ)) × (flagsBeside mostPlaces 0 ≡ passed ++ ((taken, b) ∷ after))
+  cut-pairs : apart flag b ≡ true → (after : List (ℕ × ℕ)) × (flagsBeside mostPlaces 0 ≡ passed ++ ((flag, b) ∷ after))
   cut-pairs e =
-      let (higher, around) = each-around (pairsOf mostFlags) taken mostFlags t in
-      let (more, beside) = each-around (pairOf taken) b mostFlags l in
-      let below : List (ℕ × ℕ) = each (upTo taken) (pairsOf mostFlags) in
-      let from : List (ℕ × ℕ) = pairOf taken b ++ more in (
+      let (higher, around) = each-around (flagsAt 0 mostFlags) flag mostFlags t in
+      let (more, beside) = each-around (pairAt 0 flag) b mostFlags l in
+      let below : List (ℕ × ℕ) = each (upTo flag) (flagsAt 0 mostFlags) in
+      let from : List (ℕ × ℕ) = pairAt 0 flag b ++ more in (
         more ++ higher,
-        no-own ∙ around ∙ ap {B = List (ℕ × ℕ)} (λ xs. below ++ (xs ++ higher)) beside
-            ∙ ap {B = List (ℕ × ℕ)} (λ xs. below ++ xs) (append-assoc (pairsOf b taken) from higher)
-            ∙ sym (append-assoc below (pairsOf b taken) (from ++ higher)) ∙ rw e,
+        around ∙ ap {B = List (ℕ × ℕ)} (λ xs. below ++ (xs ++ higher)) beside
+            ∙ ap {B = List (ℕ × ℕ)} (λ xs. below ++ xs) (append-assoc (flagsAt 0 b flag) from higher)
+            ∙ sym (append-assoc below (flagsAt 0 b flag) (from ++ higher)) ∙ rw (pair-of flag b, e),
       )
 
   -- the table, cut there: it begins with the triples that have no own flag
-  cut : apart taken b ≡ true
-      → (before after : List ℕ) × (length before ≡ placeAt taken b) × (allTriples ≡ before ++ (packed 0 (taken, b) ∷ after))
+  cut : apart flag b ≡ true
+      → (before after : List ℕ) × (length before ≡ placeAt flag b) × (allTriples ≡ before ++ (packed 0 (flag, b) ∷ after))
   cut e =
       let (after, pairs) = cut-pairs e in
       let others : List ℕ = each (countFrom 1 (mostFlags - 1)) triplesOf in
-      let from : List ℕ = packed 0 (taken, b) ∷ map (packed 0) after in (
+      let from : List ℕ = packed 0 (flag, b) ∷ map (packed 0) after in (
         map (packed 0) passed,
         map (packed 0) after ++ others,
-        length-map passed (packed 0) ∙ length-append (each (upTo taken) (pairsOf mostFlags)) (pairsOf b taken),
+        length-map passed (packed 0) ∙ length-append (each (upTo flag) (flagsAt 0 mostFlags)) (flagsAt 0 b flag),
         ap {B = List ℕ} (λ xs. map (packed 0) xs ++ others) pairs
-            ∙ ap {B = List ℕ} (λ xs. xs ++ others) (map-append (packed 0) passed ((taken, b) ∷ after))
+            ∙ ap {B = List ℕ} (λ xs. xs ++ others) (map-append (packed 0) passed ((flag, b) ∷ after))
             ∙ append-assoc (map (packed 0) passed) from others,
       )
 
   -- where b shares no bit its triple is at hand
-  at-hand : apart taken b ≡ true → (placeAt taken b < length allTriples) × (getD allTriples (placeAt taken b) 0 ≡ packed 0 (taken, b))
+  at-hand : apart flag b ≡ true → (placeAt flag b < length allTriples) × (getD allTriples (placeAt flag b) 0 ≡ packed 0 (flag, b))
   at-hand e =
       let (before, after, long, whole) = cut e in (
-        omega (arith, long, ap length whole, length-append before (packed 0 (taken, b) ∷ after)),
-        ap (λ xs. getD xs (placeAt taken b) 0) whole ∙ getD-at before (packed 0 (taken, b)) after 0 (placeAt taken b) long,
+        omega (arith, long, ap length whole, length-append before (packed 0 (flag, b) ∷ after)),
+        ap (λ xs. getD xs (placeAt flag b) 0) whole ∙ getD-at before (packed 0 (flag, b)) after 0 (placeAt flag b) long,
       )
 
   -- a triple with no own flag is in the table only if the other two share no bit
-  listed : packed 0 (taken, b) ∈ allTriples → apart taken b ≡ true
+  listed : packed 0 (flag, b) ∈ allTriples → apart flag b ≡ true
   listed m =
       let (first, w, _, left-lt, right-lt, outer, e) = entry-is m in
-      let same-sum : first + w .0 ≡ taken = omega arith in
+      let same-sum : first + w .0 ≡ flag = omega arith in
       let same-right : w .1 ≡ b = omega arith in
       (λ i. apart (sym same-sum i) (sym same-right i)) ∙ outer
 
   -- so b shares no bit where its triple stands at any place, and shares one where it is not at hand
   module _ (table : List ℕ) (whole : table ≡ allTriples) (i : ℕ) where
-    pub shown : i < 256 → getD table i 0 ≡ packed 0 (taken, b) → apart taken b ≡ true
+    pub shown : i < tripleCount → getD table i 0 ≡ packed 0 (flag, b) → apart flag b ≡ true
     shown h e =
         listed (subst (λ x. x ∈ allTriples) (ap (λ xs. getD xs i 0) (sym whole) ∙ e) (in-at 0 allTriples i (omega (arith, count))))
 
-    pub not-shown : i ≡ placeAt taken b → (getD table i 0 ≡ packed 0 (taken, b) → ⊥) → apart taken b ≡ false
+    pub not-shown : i ≡ placeAt flag b → (getD table i 0 ≡ packed 0 (flag, b) → ⊥) → apart flag b ≡ false
     not-shown p h =
-        not-then-false (apart taken b)
+        not-then-false (apart flag b)
         (λ e. h (ap (λ xs. getD xs i 0) whole ∙ ap (λ n. getD allTriples n 0) p ∙ at-hand e .1))
 
 -- every place at hand is within the table: there are no more pairs than triples
-pub place-small : (taken b : ℕ) → taken < mostFlags → b ≤ mostFlags → placeAt taken b < 256
-place-small taken b t l =
-    let pairs : leftAt mostFlags ≡ 81 = refl in
+pub place-small : (flag b : ℕ) → flag < mostFlags → b ≤ mostFlags → placeAt flag b < tripleCount
+place-small flag b t l =
+    let pairs : leftAt mostFlags ≡ ruleSplits = refl in
     omega (
       arith,
       pairs,
-      each-le (pairOf taken) b mostFlags l,
-      ap length (each-upTo (pairsOf mostFlags) taken),
-      length-append (each (upTo taken) (pairsOf mostFlags)) (pairsOf mostFlags taken),
-      each-le (pairsOf mostFlags) (taken + 1) mostFlags (omega arith),
+      each-le (pairAt 0 flag) b mostFlags l,
+      ap length (each-upTo (flagsAt 0 mostFlags) flag),
+      length-append (each (upTo flag) (flagsAt 0 mostFlags)) (flagsAt 0 mostFlags flag),
+      each-le (flagsAt 0 mostFlags) (flag + 1) mostFlags (omega arith),
     )
 
 -- the loop over the right flags: where it stands, and a turn
-pub record Masking (taken b free clash i : ℕ) : Type 0 where
-  pub place : i ≡ placeAt taken b
-  pub beside : Mask (apart taken) b free
-  pub sharing : Mask (λ n. not (apart taken n)) b clash
+pub record Masking (flag b free shared i : ℕ) : Type 0 where
+  pub place : i ≡ placeAt flag b
+  pub beside : Mask (apart flag) b free
+  pub sharing : Mask (λ n. not (apart flag n)) b shared
 
-pub masking-starts : (taken from : ℕ) → from ≡ leftAt taken → Masking taken 0 0 0 from
-masking-starts taken from e =
-    record { place = omega (arith, e); beside = mask-starts (apart taken); sharing = mask-starts (λ n. not (apart taken n)) }
+pub masking-starts : (flag from : ℕ) → from ≡ leftAt flag → Masking flag 0 0 0 from
+masking-starts flag from e =
+    record { place = omega (arith, e); beside = mask-starts (apart flag); sharing = mask-starts (λ n. not (apart flag n)) }
 
-module _ {taken b free clash i : ℕ} (m : Masking taken b free clash i) where
-  pub masking-apart : apart taken b ≡ true → Masking taken (b + 1) (bitOr free (1 * 2 ^ b)) clash (i + 1)
+module _ {flag b free shared i : ℕ} (m : Masking flag b free shared i) where
+  pub masking-apart : apart flag b ≡ true → Masking flag (b + 1) (bitOr free (1 * 2 ^ b)) shared (i + 1)
   masking-apart e = record {
-    place = omega (arith, m .place, place-apart taken b e);
+    place = omega (arith, m .place, place-apart flag b e);
     beside = mask-marked (m .beside) e;
     sharing = mask-unmarked (m .sharing) (ap not e);
   }
 
-  pub masking-shared : apart taken b ≡ false → Masking taken (b + 1) free (bitOr clash (1 * 2 ^ b)) i
+  pub masking-shared : apart flag b ≡ false → Masking flag (b + 1) free (bitOr shared (1 * 2 ^ b)) i
   masking-shared e = record {
-    place = omega (arith, m .place, place-shared taken b e);
+    place = omega (arith, m .place, place-shared flag b e);
     beside = mask-unmarked (m .beside) e;
     sharing = mask-marked (m .sharing) (ap not e);
   }
 
-  pub masking-ends : Masked b taken free clash
-  masking-ends = record { beside = m .beside .right; sharing = λ n h. m .sharing .right n h ∙ other (apart taken n); few = m .beside .few }
+  pub masking-ends : Masked b flag free shared
+  masking-ends = record { beside = m .beside .right; sharing = λ n h. m .sharing .right n h ∙ other (apart flag n); few = m .beside .few }
     where
       other : (t : Bool) → _≡_ {A = ℕ} (cond (not t) 1 0) (cond t 0 1)
       other true = refl
@@ -239,33 +238,33 @@ module _ {taken b free clash i : ℕ} (m : Masking taken b free clash i) where
 -- ---- the masks of all flags
 -- those of one more are put into the notes
 abbrev withMasks : ℕ → ℕ → ℕ → List ℕ → List ℕ
-withMasks taken free clash notes = set (set notes taken free) (mostFlags + taken) clash
+withMasks flag free shared notes = set (set notes flag free) (mostFlags + flag) shared
 
-module _ (size taken free clash : ℕ) (notes : List ℕ) (room : noteNumbers ≤ length notes) (small : taken < mostFlags) where
+module _ (size flag free shared : ℕ) (notes : List ℕ) (room : noteNumbers ≤ length notes) (small : flag < mostFlags) where
   -- they stand there, and those of the flags before stay
-  pub noted-onward : ((n : ℕ) → n < taken → Masked size n (freeAt notes n) (clashAt notes n)) → Masked size taken free clash
-      → let notes′ = withMasks taken free clash notes in
-      (n : ℕ) → n < taken + 1 → Masked size n (freeAt notes′ n) (clashAt notes′ n)
-  noted-onward before m = below-more (λ n. Masked size n (freeAt notes′ n) (clashAt notes′ n)) taken earlier here
+  pub noted-onward : ((n : ℕ) → n < flag → Masked size n (freeAt notes n) (sharedAt notes n)) → Masked size flag free shared
+      → let notes′ = withMasks flag free shared notes in
+      (n : ℕ) → n < flag + 1 → Masked size n (freeAt notes′ n) (sharedAt notes′ n)
+  noted-onward before m = below-more (λ n. Masked size n (freeAt notes′ n) (sharedAt notes′ n)) flag earlier here
     where
       notes′ : List ℕ
-      notes′ = withMasks taken free clash notes
+      notes′ = withMasks flag free shared notes
 
-      other : (i : ℕ) → (i ≡ taken → ⊥) → (i ≡ mostFlags + taken → ⊥) → getD notes′ i 0 ≡ getD notes i 0
-      other i h k = getD-set-other (set notes taken free) (mostFlags + taken) i clash 0 k ∙ getD-set-other notes taken i free 0 h
+      other : (i : ℕ) → (i ≡ flag → ⊥) → (i ≡ mostFlags + flag → ⊥) → getD notes′ i 0 ≡ getD notes i 0
+      other i h k = getD-set-other (set notes flag free) (mostFlags + flag) i shared 0 k ∙ getD-set-other notes flag i free 0 h
 
-      earlier : (n : ℕ) → n < taken → Masked size n (freeAt notes′ n) (clashAt notes′ n)
+      earlier : (n : ℕ) → n < flag → Masked size n (freeAt notes′ n) (sharedAt notes′ n)
       earlier n h =
           subst₂ (Masked size n) (sym (other n (omega arith) (omega arith))) (sym (other (mostFlags + n) (omega arith) (omega arith)))
           (before n h)
 
-      first : freeAt notes′ taken ≡ free
+      first : freeAt notes′ flag ≡ free
       first =
-          getD-set-other (set notes taken free) (mostFlags + taken) taken clash 0 (λ e. omega arith)
-          ∙ getD-set-same notes taken free 0 (omega arith)
+          getD-set-other (set notes flag free) (mostFlags + flag) flag shared 0 (λ e. omega arith)
+          ∙ getD-set-same notes flag free 0 (omega arith)
 
-      second : clashAt notes′ taken ≡ clash
-      second = getD-set-same (set notes taken free) (mostFlags + taken) clash 0 (omega (arith, length-set notes taken free))
+      second : sharedAt notes′ flag ≡ shared
+      second = getD-set-same (set notes flag free) (mostFlags + flag) shared 0 (omega (arith, length-set notes flag free))
 
-      here : Masked size taken (freeAt notes′ taken) (clashAt notes′ taken)
-      here = subst₂ (Masked size taken) (sym first) (sym second) m
+      here : Masked size flag (freeAt notes′ flag) (sharedAt notes′ flag)
+      here = subst₂ (Masked size flag) (sym first) (sym second) m

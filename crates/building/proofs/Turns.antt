@@ -123,7 +123,7 @@ module _ {rule : Branch} {k : ℕ} {B W : List ℕ} {b₁ n count : ℕ} {B′ W
       )
 
   -- flags that share a bit
-  pub with-shared : (bitAnd (rule .own + b₁) n ≡ 0 → ⊥) → Runs (flagsAt (rule .own) (n + 1) b₁) rule k B W count B′ W′
+  with-shared : (bitAnd (rule .own + b₁) n ≡ 0 → ⊥) → Runs (flagsAt (rule .own) (n + 1) b₁) rule k B W count B′ W′
   with-shared f = rw (flags-shared (rule .own) b₁ n f) done
 
   one-more : (c : ℕ) (B″ W″ : List ℕ) → bitAnd (rule .own + b₁) n ≡ 0 → Runs ((b₁, n) ∷ []) rule count B′ W′ c B″ W″
@@ -154,9 +154,9 @@ pub record RightLoop (rule : Branch) (k : ℕ) (B W : List ℕ) (b₁ walked mar
   done : Runs (flagsAt (rule .own) come b₁) rule k B W count B′ W′
 
 -- own flag and left flag are together a flag
-pub taken-below : {rule : Branch} {k : ℕ} {B W : List ℕ} → Room rule k B W → (b₁ : ℕ) → b₁ < rule .size → bitAnd (rule .own) b₁ ≡ 0
+pub sum-flag : {rule : Branch} {k : ℕ} {B W : List ℕ} → Room rule k B W → (b₁ : ℕ) → b₁ < rule .size → bitAnd (rule .own) b₁ ≡ 0
     → rule .own + b₁ < rule .size
-taken-below {rule} room b₁ h e = sum-below (rule .size) (rule .own) b₁ (room .flags) (room .own-flag) h e
+sum-flag {rule} room b₁ h e = sum-below (rule .size) (rule .own) b₁ (room .flags) (room .own-flag) h e
 
 module _ {rule : Branch} {k : ℕ} {B W : List ℕ} (room : Room rule k B W) {b₁ : ℕ} (left-flag : b₁ < rule .size)
     (left-apart : bitAnd (rule .own) b₁ ≡ 0) {walked : ℕ} (free : Free (rule .size) (rule .own + b₁) (marksAt W (rule .right)) walked) where
@@ -182,7 +182,7 @@ module _ {rule : Branch} {k : ℕ} {B W : List ℕ} (room : Room rule k B W) {b�
       done = done;
     }
 
-    -- one flag with an empty slot, one that is not walked, and then so many
+    -- one flag with an empty slot
     one-empty : (n : ℕ) → n < rule .size → slotAt W (rule .right + n) ≡ 0 → Runs (flagsAt (rule .own) n b₁) rule k B W count B′ W′
         → Runs (flagsAt (rule .own) (n + 1) b₁) rule k B W count B′ W′
     one-empty n h z done = go (eqb (bitAnd (rule .own + b₁) n) 0) refl
@@ -193,11 +193,13 @@ module _ {rule : Branch} {k : ℕ} {B W : List ℕ} (room : Room rule k B W) {b�
             (same-set (done .shelf) (rule .right) (room .right-before) n h ∙ z)
         go false e = with-shared (turn-at n h done) (eqb-false (bitAnd (rule .own + b₁) n) 0 e)
 
+    -- one that is not walked
     one-passed : (n : ℕ) → n < rule .size → markAt walked n ≡ 0 → Runs (flagsAt (rule .own) n b₁) rule k B W count B′ W′
         → Runs (flagsAt (rule .own) (n + 1) b₁) rule k B W count B′ W′
     one-passed n h z done =
         ⊎-elim (λ unmarked. one-empty n h (room .right-marked .empty n h unmarked) done) (with-shared (turn-at n h done)) (free .skips n h z)
 
+    -- and so many
     passed : (n m : ℕ) → n ≤ m → m ≤ rule .size → ((b : ℕ) → n ≤ b → b < m → markAt walked b ≡ 0)
         → Runs (flagsAt (rule .own) n b₁) rule k B W count B′ W′ → Runs (flagsAt (rule .own) m b₁) rule k B W count B′ W′
     passed n m l h z =
@@ -221,7 +223,7 @@ module _ {rule : Branch} {k : ℕ} {B W : List ℕ} (room : Room rule k B W) {b�
           (λ b h l. none-between _ _ _ _ (s .rest) some b h l) (s .done))
 
       pub right-apart : bitAnd (rule .own + b₁) (firstMark marks) ≡ 0
-      right-apart = free .takes (firstMark marks) (first-below _ _ _ _ (s .rest) some) (first-marked _ _ _ _ (s .rest) some)
+      right-apart = free .takes (firstMark marks) (first-below _ _ _ _ (s .rest) some) (first-marked _ _ _ _ (s .rest) some) .1
 
       pub right-onward : {c : ℕ} {B″ W″ : List ℕ} → length B″ ≡ length B → length W″ ≡ length W
           → Runs (flagsAt (rule .own) (firstMark marks + 1) b₁) rule k B W c B″ W″ → RightLoop rule k B W b₁ walked (laterMarks marks) c B″ W″
@@ -261,7 +263,7 @@ module _ {rule : Branch} {k : ℕ} {B W : List ℕ} {n count : ℕ} {B′ W′ :
       )
 
   -- a left flag that shares a bit with the own one
-  pub without-left : (bitAnd (rule .own) n ≡ 0 → ⊥) → Runs (each (upTo (n + 1)) (flagsAt (rule .own) (rule .size))) rule k B W count B′ W′
+  without-left : (bitAnd (rule .own) n ≡ 0 → ⊥) → Runs (each (upTo (n + 1)) (flagsAt (rule .own) (rule .size))) rule k B W count B′ W′
   without-left f =
       let flags = flagsAt (rule .own) (rule .size) in
       rw (each-upTo flags n, flags-none (rule .own) n (rule .size) f, append-nil (each (upTo n) flags)) done
@@ -315,14 +317,15 @@ module _ {rule : Branch} {k : ℕ} {B W : List ℕ} (room : Room rule k B W) whe
         };
       }
 
-  -- nothing at all on the right side: the splits beside any left flag change nothing
-  none-free : (taken marked : ℕ) → marked ≡ 0 → Free (rule .size) taken marked 0
-  none-free taken marked e = record {
+  -- no mark at all: none is walked
+  none-free : (flag marked : ℕ) → marked ≡ 0 → Free (rule .size) flag marked 0
+  none-free flag marked e = record {
     few = omega (arith, pow-pos (rule .size));
     takes = λ b h w. absurd (omega (arith, no-mark b));
     skips = λ b h w. inl (ap (λ x. markAt x b) e ∙ no-mark b);
   }
 
+  -- nothing at all on the right side: the splits beside any left flag change nothing
   beside-none : marksAt W (rule .right) ≡ 0 → (b : ℕ) → b < rule .size → Runs (flagsAt (rule .own) (rule .size) b) rule k B W k B W
   beside-none e b h = go (eqb (bitAnd (rule .own) b) 0) refl
     where
@@ -376,7 +379,7 @@ module _ {rule : Branch} {k : ℕ} {B W : List ℕ} (room : Room rule k B W) whe
             (λ b h l. none-between _ _ _ _ (s .rest) some b h l) (s .done))
 
         pub left-apart-first : bitAnd (rule .own) (firstMark marks) ≡ 0
-        left-apart-first = free .takes (firstMark marks) (first-below _ _ _ _ (s .rest) some) (first-marked _ _ _ _ (s .rest) some)
+        left-apart-first = free .takes (firstMark marks) (first-below _ _ _ _ (s .rest) some) (first-marked _ _ _ _ (s .rest) some) .1
 
         pub left-onward : {c : ℕ} {B″ W″ : List ℕ} → length B″ ≡ length B → length W″ ≡ length W
             → Runs (each (upTo (firstMark marks + 1)) (flagsAt (rule .own) (rule .size))) rule k B W c B″ W″

@@ -3,8 +3,8 @@ pub mod Bounds
 pub mod Kinds
 pub mod Batch
 pub mod Slots
-pub mod Splits
 pub mod Rules
+pub mod Splits
 pub mod NodeOrder
 pub mod RuleOrder
 pub mod Growing

@@ -2,7 +2,7 @@
 -- left flag begin; then, for each flag that own flag and left flag make together, the flags that may stand beside it as a mask, and the
 -- others as another. Last the marked flags that may stand beside one.
 use mathlib.Core.Bool.{cond}
-use mathlib.Core.List.{List, [], _∷_, map}
+use mathlib.Core.List.{List, map}
 use mathlib.Core.Logic.{_⊎_}
 use mathlib.Core.Path.{_≡_}
 use Prim.Native.Nat.{ℕ, _+_, _*_, _≤_, _<_, _^_}
@@ -10,8 +10,10 @@ use lib.Bits.{bitAnd}
 use lib.ListN.{getD, length}
 use Rattle.paper.specs.Building.{flagsBeside}
 use Rattle.paper.specs.Lists.{each, upTo}
+use Rattle.paper.specs.Row.{noPlace}
 use Rattle.paper.specs.Sound.{apart}
 use Rattle.building.specs.Bounds.{mostFlags, mostPlaces}
+use Rattle.building.specs.Rules.{flagsAt}
 use Rattle.building.specs.Slots.{markAt}
 
 -- ---- the table
@@ -27,39 +29,37 @@ triplesOf first = map (packed first) (flagsBeside mostPlaces first)
 abbrev pub allTriples : List ℕ
 allTriples = each (upTo mostFlags) triplesOf
 
--- with no own flag: a left flag and a right one, if they share no bit
-abbrev pub pairOf : ℕ → ℕ → List (ℕ × ℕ)
-pairOf left right = cond (apart left right) ((left, right) ∷ []) []
+-- how many there are: each place is in the first flag, in the second, in the third or in none
+abbrev pub tripleCount : ℕ
+tripleCount = 4 ^ mostPlaces
 
 -- where those of a left flag begin, among the triples with no own flag, which come first: behind those of the left flags below it
 abbrev pub leftAt : ℕ → ℕ
-leftAt taken = length (each (upTo taken) (λ left. each (upTo mostFlags) (pairOf left)))
+leftAt left = length (each (upTo left) (flagsAt noPlace mostFlags))
 
 -- ---- the notes: for each flag the mask of those that share no bit with it, and behind these masks those of the flags that share one
 abbrev pub noteNumbers : ℕ
 noteNumbers = 2 * mostFlags
 
 abbrev pub freeAt : List ℕ → ℕ → ℕ
-freeAt notes taken = getD notes taken 0
+freeAt notes flag = getD notes flag 0
 
-abbrev pub clashAt : List ℕ → ℕ → ℕ
-clashAt notes taken = getD notes (mostFlags + taken) 0
+abbrev pub sharedAt : List ℕ → ℕ → ℕ
+sharedAt notes flag = getD notes (mostFlags + flag) 0
 
 -- the two masks of one flag are right for the flags below size, and the first has no flag above them
-pub record Masked (size taken free clash : ℕ) : Type 0 where
-  pub beside : (b : ℕ) → b < size → markAt free b ≡ cond (apart taken b) 1 0
-  pub sharing : (b : ℕ) → b < size → markAt clash b ≡ cond (apart taken b) 0 1
+pub record Masked (size flag free shared : ℕ) : Type 0 where
+  pub beside : (b : ℕ) → b < size → markAt free b ≡ cond (apart flag b) 1 0
+  pub sharing : (b : ℕ) → b < size → markAt shared b ≡ cond (apart flag b) 0 1
   pub few : free < 2 ^ size
 
 -- those of all flags below size are
 pub record Noted (size : ℕ) (notes : List ℕ) : Type 0 where
   pub room : noteNumbers ≤ length notes
-  pub free : (taken b : ℕ) → taken < size → b < size → markAt (freeAt notes taken) b ≡ cond (apart taken b) 1 0
-  pub clash : (taken b : ℕ) → taken < size → b < size → markAt (clashAt notes taken) b ≡ cond (apart taken b) 0 1
-  pub few : (taken : ℕ) → taken < size → freeAt notes taken < 2 ^ size
+  pub masks : (flag : ℕ) → flag < size → Masked size flag (freeAt notes flag) (sharedAt notes flag)
 
--- ---- the marks of so many flags: of those that are marked, the ones that share no bit with `taken`
-pub record Free (size taken marked marks : ℕ) : Type 0 where
+-- ---- the marks of so many flags: of those that are marked, the ones that share no bit with `flag`
+pub record Free (size flag marked marks : ℕ) : Type 0 where
   pub few : marks < 2 ^ size
-  pub takes : (b : ℕ) → b < size → markAt marks b ≡ 1 → bitAnd taken b ≡ 0
-  pub skips : (b : ℕ) → b < size → markAt marks b ≡ 0 → (markAt marked b ≡ 0) ⊎ (bitAnd taken b ≡ 0 → ⊥)
+  pub takes : (b : ℕ) → b < size → markAt marks b ≡ 1 → (markAt marked b ≡ 1) × (bitAnd flag b ≡ 0)
+  pub skips : (b : ℕ) → b < size → markAt marks b ≡ 0 → (markAt marked b ≡ 0) ⊎ (bitAnd flag b ≡ 0 → ⊥)

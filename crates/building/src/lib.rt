@@ -37,7 +37,8 @@ pub fn build(input: &[u8], work: &mut [u64], table: &mut [Record]) -> Built
 {
     // All that the start needs of the table: refusal 6 shows only when records are made.
     let entries = table.len();
-    // Local, 3,410 bytes, as the batch below: no memory is asked for, and the caller lends none for them.
+    // The lists, and behind them the notes. Local, 3,410 bytes, as the batch below: no memory is asked for,
+    // and the caller lends none for them.
     let mut lists: [u16; LOOKUP_NUMBERS] = [0; LOOKUP_NUMBERS];
     match begin(input, &mut *work, &mut lists, entries) {
         // With 1 to 5 the work and the table are as they were.

@@ -1,7 +1,7 @@
 // A slot is a number of the lent work, and its low 16 bits are a set. The slots of one state in a frame
 // are a shelf, a slot for each flag. Above its set the number of a shelf's first slot has the shelf's
 // marks: a bit for each flag at which the shelf may have a set that is not empty, so that a rule looks at
-// no other. Without them it would look at up to 16 left flags and, beside each, at up to 16 right ones.
+// no other. Without them it would look at each of its splits, of which there may be 81.
 ghost use Prim.Native.Nat.{_+_, _<_};
 ghost use lib.ListN.{length};
 ghost use Rattle.building.specs.Bounds.{mostFlags, slotSets};

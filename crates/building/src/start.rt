@@ -26,7 +26,7 @@ use stream::read_query;
 use stream::read_tree;
 use table::EMPTY;
 
-// So many numbers a build looks up: the lists of its rules, and behind them the notes of its splits.
+// How many numbers a build looks up: the lists of its rules, and behind them the notes of its splits.
 pub(crate) const LOOKUP_NUMBERS: usize = LIST_NUMBERS + NOTE_NUMBERS;
 
 // The building stands at its first node, or is refused with 1 to 5.
@@ -91,7 +91,7 @@ fn start(
 }
 
 // The tree, then the query behind it: the first that is refused ends the build. What is kept of them is a
-// few numbers, and the lists, which tell where the rules stand.
+// few numbers, the lists, which tell where the rules stand, and behind these the notes of the splits.
 pub(crate) fn begin(input: &[u8], work: &mut [u64], lists: &mut [u16], entries: usize) -> Begun
     requires { ⌜ lookupNumbers ≤ length (now lists) ⌝ }
     ensures { λ r. ⌜ Begins (now (input .entry)) (now (work .entry)) entries r (now (work .exit)) (now (lists .exit)) ⌝ }

@@ -1,9 +1,11 @@
 // The table of triples of flags that share no bit: own flag, left flag and right flag of a split. First how
 // many there are, then the table, and where each left flag begins in it. Its rule is one theorem, `the-triples`
-// (proofs/TripleTable.antt), against the splits of the paper.
+// (proofs/TripleTable.antt), against the splits of the paper. A build reads the triples with no own flag, the
+// first 81: the paper holds the right flag to the sum of the other two (`flagsBeside`), so that these tell it
+// for every own flag (docs/DECISIONS.md, 104). All 256 stand here since the request names them.
 
 // A flag has a bit for each of at most four places.
-pub(crate) const FLAGS: usize = 16;
+pub(crate) const MOST_FLAGS: usize = 16;
 
 // Each place is in the own flag, in the left one, in the right one or in none: 4 to the power of 4.
 pub(crate) const TRIPLE_COUNT: usize = 256;
@@ -270,7 +272,7 @@ pub(crate) const TRIPLES: [u16; TRIPLE_COUNT] = [
 ];
 
 // Where the triples of each left flag begin, among those with no own flag, which come first.
-pub(crate) const LEFTS: [u16; FLAGS] = [
+pub(crate) const LEFTS: [u16; MOST_FLAGS] = [
     0,
     16,
     24,

@@ -13,7 +13,7 @@ use Rattle.building.specs.Splits.{Free}
 use Rattle.building.proofs.Marks.{fewer-marks, firstMark}
 use Rattle.building.proofs.Running.{skipped-left}
 use Rattle.building.proofs.Turns.{RightLoop, RightTurn, right-apart, right-ends, right-onward, right-starts, right-turn, size-small, some-flag}
-use Rattle.building.proofs.Turns.{split-room, taken-below, with-empty, with-split}
+use Rattle.building.proofs.Turns.{split-room, sum-flag, with-empty, with-split}
 use Rattle.building.proofs.rule.beside.Statement.{statement}
 use Rattle.building.proofs.rule.beside.Tie as tie
 
@@ -34,7 +34,7 @@ walked-free : (c : tie.After-free-beside Inv-loop μ-loop)
 walked-free c =
     let pre = (begin c) .pre in
     let a = (begin c) .args in
-    c .free-beside .ensures (a .rule .size) (pre .0 .1) (taken-below (pre .0 .0) (a .b1) (pre .1 .0 .0) (pre .1 .0 .1)) (pre .0 .0 .right-marked .few)
+    c .free-beside .ensures (a .rule .size) (pre .0 .1) (sum-flag (pre .0 .0) (a .b1) (pre .1 .0 .0) (pre .1 .0 .1)) (pre .0 .0 .right-marked .few)
 
 abbrev start : tie.In-loop Inv-loop μ-loop → tie.Start Inv-loop μ-loop
 start c = begin (c .before .before)
@@ -101,7 +101,7 @@ free-beside-requires c κs =
     let start = c .before .before .before .before .before .before .before in
     let pre = start .pre in
     let r = pre .0 .0 in
-    (omega (arith, taken-below r (start .args .b1) (pre .1 .0 .0) (pre .1 .0 .1), size-small _ (r .flags)), pre .0 .1 .room)
+    (omega (arith, sum-flag r (start .args .b1) (pre .1 .0 .0) (pre .1 .0 .1), size-small _ (r .flags)), pre .0 .1 .room)
 
 loop-holds : tie.Need-loop-holds Inv-loop μ-loop
 loop-holds c =

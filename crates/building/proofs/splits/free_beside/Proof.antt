@@ -3,7 +3,7 @@ use Prim.Native.Nat.{_+_}
 use native.Mathlib.Omega.{arith}
 use borrow.Author.Needs.{needs}
 use Rattle.building.specs.Bounds.{mostFlags}
-use Rattle.building.proofs.FreeMarks.{none-clashes}
+use Rattle.building.proofs.FreeMarks.{none-shared}
 use Rattle.building.proofs.splits.free_beside.Statement.{statement}
 use Rattle.building.proofs.splits.free_beside.Tie as tie
 
@@ -17,10 +17,10 @@ shared-slice-read-if1 : tie.Need-shared-slice-read-if1
 shared-slice-read-if1 c = omega arith
 
 cast-if1 : tie.Need-cast-if1
-cast-if1 c = omega (arith, c .shared-slice-known2 .given (mostFlags + c .before .before .args .taken))
+cast-if1 c = omega (arith, c .shared-slice-known2 .given (mostFlags + c .before .before .args .flag))
 
 returns : tie.Need-returns
-returns c size noted below few = none-clashes noted below (c .before .before .before .args .marked) few (c .if1 .taken)
+returns c size noted below few = none-shared noted below (c .before .before .before .args .marked) few (c .if1 .taken)
 
 free-marks-requires : tie.Need-free-marks-requires
 free-marks-requires c κs = search needs

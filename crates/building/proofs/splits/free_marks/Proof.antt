@@ -11,7 +11,7 @@ shared-slice-read-result : tie.Need-shared-slice-read-result
 shared-slice-read-result c = omega arith
 
 cast-result : tie.Need-cast-result
-cast-result c = omega (arith, c .shared-slice-known .given (c .before .args .taken))
+cast-result c = omega (arith, c .shared-slice-known .given (c .before .args .flag))
 
 returns : tie.Need-returns
 returns c size noted below = free-masked noted below (c .before .args .marked)
