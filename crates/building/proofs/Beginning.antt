@@ -9,19 +9,19 @@ use native.Mathlib.Omega.{arith}
 use borrow.Author.Tests.{lt-leb}
 use lib.ListN.{drop, length, length-drop, take}
 use lib.Seq.{drop-length}
-use Rattle.paper.specs.Refusals.{Test, answer, atEach, build, headFrom, madeFrom, nodesIn, queryIn, queryPart, queryTests, refused}
-use Rattle.paper.specs.Refusals.{treePart, treeTests, unless, workFor}
-use Rattle.paper.specs.Stream.{StreamRecord, queryRecords, recordsOf, treeRecords}
+use Rattle.paper.specs.Refusals.{No, Test, answer, build, headFrom, madeFrom, no, nodesIn, numberIn, queryIn, queryPart, refused}
+use Rattle.paper.specs.Refusals.{treePart, unless, workFor}
+use Rattle.paper.specs.Stream.{StreamRecord, behind, queryRecords, recordsOf, treeRecords}
 use Rattle.paper.specs.Tree.{mostUnjoined}
+use Rattle.laws.proofs.AtEach.{ThreeOrFour, query-says, tree-says}
 use Rattle.laws.proofs.ReadTree.{tree-read}
-use Rattle.laws.proofs.Replies.{Passes, answered, refused-inj, refused-not-answer, unless-append}
+use Rattle.laws.proofs.Replies.{Passes, answered, refused-append, says-refused, unless-append}
 use Rattle.stream.specs.declared.head.QueryFacts.{QueryFacts}
 use Rattle.stream.specs.declared.tree.TreeFacts.{TreeFacts}
 use Rattle.stream.specs.RuleLists.{Listable, Lists, RuleLists, listNumbers}
 use Rattle.stream.specs.Reading.{queryFacts, queryReply, treeFacts, treeReply}
 use Rattle.stream.proofs.AfterTree.{facts-after-tree, reply-after-tree}
 use Rattle.stream.proofs.Room.{query-listable}
-use Rattle.stream.proofs.EachRecord.{refused-append}
 use Rattle.building.specs.Bounds.{mostNodes, mostPlaces, mostRecords, mostStates}
 use Rattle.building.specs.Frames.{width}
 use Rattle.building.specs.Coming.{Come, Coming}
@@ -34,68 +34,35 @@ use Rattle.building.proofs.ListedRules.{part-behind, rules-stay}
 use Rattle.building.proofs.Present.{most-nodes}
 use Rattle.building.proofs.ReadInput.{few-states, query-part-passes, small-arity, tree-passes}
 
--- ---- numbers up to 5
-abbrev Low : List Test → Type 0
-Low [] = Unit {0}
-Low (t ∷ ts) = (t .0 ≤ 5) × Low ts
-
-low-append : (ts us : List Test) → Low ts → Low us → Low (ts ++ us)
-low-append [] us h g = g
-low-append (t ∷ ts) us h g = (h .0, low-append ts us (h .1) g)
-
-low-each : (tests : List StreamRecord → StreamRecord → List Test) → ((before : List StreamRecord) (r : StreamRecord) → Low (tests before r))
-    → (before rs : List StreamRecord) → Low (atEach tests before rs)
-low-each tests h before [] = tt
-low-each tests h before (r ∷ rs) =
-    low-append (tests before r) (atEach tests (before ++ (r ∷ [])) rs) (h before r) (low-each tests h (before ++ (r ∷ [])) rs)
-
-low-refused : {A : Type 0} (ts : List Test) (a : A) {n : ℕ} → Low ts → unless ts a ≡ refused n → n ≤ 5
-low-refused [] a h e = absurd (refused-not-answer (sym e))
-low-refused {A} (t ∷ ts) a {n} h e = go (t .1) e (low-refused ts a (h .1))
-  where
-    go : (c : Bool) → cond c (unless ts a) (refused (t .0)) ≡ refused n → (unless ts a ≡ refused n → n ≤ 5) → n ≤ 5
-    go true w ih = ih w
-    go false w ih = omega (arith, h .0, refused-inj w)
-
-low-tree : (records : List StreamRecord) → Low (treePart records)
-low-tree records = low-append (atEach treeTests [] records) _ (low-each treeTests (λ before r. omega arith) [] records) (omega arith)
-
-low-query-tests : (before : List StreamRecord) (r : StreamRecord) → Low (queryTests before r)
-low-query-tests [] r = omega arith
-low-query-tests (h ∷ before) r = omega arith
-
-low-query : (records : List StreamRecord) → Low (queryPart records)
-low-query records = low-append (atEach queryTests [] records) _ (low-each queryTests low-query-tests [] records) (omega arith)
-
 -- ---- refusals
 module _ (input : List ℕ) (workLength tableLength : ℕ) where
   -- of the tree
-  pub tree-refused : {n : ℕ} → refused n ≡ treeReply input → (build input workLength tableLength ≡ refused n) × (n ≤ 5)
+  pub tree-refused : {n : No} → refused n ≡ treeReply input → (build input workLength tableLength ≡ refused n) × (numberIn n ≤ 5)
   tree-refused e = (
     refused-append (treePart (treeRecords (recordsOf input))) _ (treeFacts input) (headFrom input, madeFrom input) (sym e),
-    low-refused (treePart (treeRecords (recordsOf input))) (treeFacts input) (low-tree (treeRecords (recordsOf input))) (sym e),
+    omega (arith, says-refused (λ w. numberIn w ≤ 2) (treePart (treeRecords (recordsOf input))) (treeFacts input) (tree-says (treeRecords (recordsOf input))) (sym e)),
   )
 
   module _ (tree : Passes (treePart (treeRecords (recordsOf input)))) where
     -- of the query
-    query-refused : {n : ℕ} → refused n ≡ queryReply input (2 * nodesIn input) → (build input workLength tableLength ≡ refused n) × (n ≤ 5)
+    query-refused : {n : No} → refused n ≡ queryReply input (2 * nodesIn input) → (build input workLength tableLength ≡ refused n) × (numberIn n ≤ 5)
     query-refused {n} e = (
       unless-append (treePart (treeRecords (recordsOf input))) _ (headFrom input, madeFrom input) tree
-          ∙ refused-append (queryPart records) _ (queryFacts input (2 * nodesIn input)) (headFrom input, madeFrom input) reply,
-      low-refused (queryPart records) (queryFacts input (2 * nodesIn input)) (low-query records) reply,
+          ∙ refused-append tests _ (queryFacts input (2 * nodesIn input)) (headFrom input, madeFrom input) reply,
+      omega (arith, says-refused ThreeOrFour tests (queryFacts input (2 * nodesIn input)) (query-says (behind 0 (treeRecords (recordsOf input))) (queryRecords (recordsOf input))) reply),
     )
       where
-        records : List StreamRecord
-        records = queryRecords (recordsOf input)
+        tests : List Test
+        tests = queryPart (behind 0 (treeRecords (recordsOf input))) (queryRecords (recordsOf input))
 
-        reply : unless (queryPart (queryRecords (recordsOf input))) (queryFacts input (2 * nodesIn input)) ≡ refused n
-        reply = sym (reply-after-tree input) ∙ sym e
+        reply : unless tests (queryFacts input (2 * nodesIn input)) ≡ refused n
+        reply = sym (reply-after-tree input tree) ∙ sym e
 
     -- of the work
-    work-refused : Passes (queryPart (queryRecords (recordsOf input))) → workLength < workFor input → build input workLength tableLength ≡ refused 5
+    work-refused : Passes (queryPart (behind 0 (treeRecords (recordsOf input))) (queryRecords (recordsOf input))) → workLength < workFor input → build input workLength tableLength ≡ refused (no 5)
     work-refused query short =
         unless-append (treePart (treeRecords (recordsOf input))) _ (headFrom input, madeFrom input) tree
-        ∙ unless-append (queryPart (queryRecords (recordsOf input))) _ (headFrom input, madeFrom input) query
+        ∙ unless-append (queryPart (behind 0 (treeRecords (recordsOf input))) (queryRecords (recordsOf input))) _ (headFrom input, madeFrom input) query
         ∙ rw (lt-leb (workFor input) workLength short) refl
 
 -- ---- what was read
@@ -131,11 +98,11 @@ read-facts input tree query e e′ = record {
     here = e′ ∙ ap (queryReply input) (tree-end input tree e)
 
     query-is : queryFacts input (2 * nodesIn input) ≡ query
-    query-is = answered (queryPart (recordsOf (drop (2 * nodesIn input) input))) (sym here) .1
+    query-is = answered (queryPart (2 * nodesIn input) (recordsOf (drop (2 * nodesIn input) input))) (sym here) .1
 
 -- a query behind a tree that is answered
-pub query-refused-at : (input : List ℕ) (workLength tableLength : ℕ) {tree : TreeFacts} {n : ℕ} → answer tree ≡ treeReply input
-    → refused n ≡ queryReply input (tree .end) → (build input workLength tableLength ≡ refused n) × (n ≤ 5)
+pub query-refused-at : (input : List ℕ) (workLength tableLength : ℕ) {tree : TreeFacts} {n : No} → answer tree ≡ treeReply input
+    → refused n ≡ queryReply input (tree .end) → (build input workLength tableLength ≡ refused n) × (numberIn n ≤ 5)
 query-refused-at input workLength tableLength {tree} e e′ =
     query-refused input workLength tableLength (answered (treePart (treeRecords (recordsOf input))) (sym e) .0)
     (e′ ∙ ap (queryReply input) (tree-end input tree e))
@@ -194,9 +161,9 @@ module _ (input : List ℕ) (tree : TreeFacts) (query : QueryFacts) (f : ReadFac
 
   -- too short
   pub short-work : (work : List ℕ) (tableLength : ℕ) {n : ℕ} → n ≡ width (query .arity) (query .states) → length work < (1 + tree .most) * n
-      → build input (length work) tableLength ≡ refused 5
+      → build input (length work) tableLength ≡ refused (no 5)
   short-work work tableLength e h =
-      work-refused input (length work) tableLength passes (query-part-passes input (f .query-reply)) (omega (arith, asked-is e))
+      work-refused input (length work) tableLength passes (query-part-passes input (f .query-reply) passes) (omega (arith, asked-is e))
 
   -- the first node
   first-node : (node at top : ℕ) → node ≡ 0 → at ≡ 0 → top ≡ 0 → (records : List StreamRecord) → treeRecords (recordsOf input) ≡ records

@@ -9,8 +9,8 @@ use lib.ListN.{drop, length, length-replicate, replicate}
 use lib.Pow.{pow-pos}
 use lib.Seq.{paste, take-all}
 use Rattle.paper.specs.Answers.{told}
-use Rattle.paper.specs.Refusals.{answer, build, headFrom, madeFrom, over, queryPart, refused, treePart, workAfter, workFor}
-use Rattle.paper.specs.Stream.{queryRecords, recordsOf, treeRecords}
+use Rattle.paper.specs.Refusals.{answer, build, headFrom, madeFrom, over, queryPart, refused, treePart, workAfter, workFor, no}
+use Rattle.paper.specs.Stream.{behind, queryRecords, recordsOf, treeRecords}
 use Rattle.laws.proofs.ReadTree.{tree-read}
 use Rattle.laws.proofs.Replies.{Passes, unless-append}
 use Rattle.laws.specs.Plain.{Head}
@@ -34,8 +34,8 @@ module _ (input : List ℕ) (t : State) (all : List Record) (s : Stopped input t
   tree : Passes (treePart (treeRecords (recordsOf input)))
   tree = tree-passes input (s .constants .tree)
 
-  query : Passes (queryPart (queryRecords (recordsOf input)))
-  query = query-part-passes input (s .constants .query)
+  query : Passes (queryPart (behind 0 (treeRecords (recordsOf input))) (queryRecords (recordsOf input)))
+  query = query-part-passes input (s .constants .query) tree
 
   pub head-fits : t .over ≡ false → HeadFits t
   head-fits e =
@@ -52,7 +52,7 @@ module _ (input : List ℕ) (t : State) (all : List Record) (s : Stopped input t
 
   module _ (first : List ℕ) (entries : ℕ) (limit : t .limit ≡ min entries mostRecords) (enough : t .asked ≤ length first) where
     -- past the limit
-    pub built-refused : t .over ≡ true → build input (length first) entries ≡ refused 6
+    pub built-refused : t .over ≡ true → build input (length first) entries ≡ refused (no 6)
     built-refused e =
         grows-refused input (length first) entries tree query (omega (arith, s .constants .asked)) (grows-none (madeFrom input))
         (omega (arith, s .past e .0))
@@ -63,7 +63,7 @@ module _ (input : List ℕ) (t : State) (all : List Record) (s : Stopped input t
         let d = s .done e in
         let used : length (madeFrom input) ≡ t .from + t .count = ap (λ z. length (z .0)) (d .made) ∙ d .used in
         unless-append (treePart (treeRecords (recordsOf input))) _ (headFrom input, madeFrom input) tree
-        ∙ unless-append (queryPart (queryRecords (recordsOf input))) _ (headFrom input, madeFrom input) query
+        ∙ unless-append (queryPart (behind 0 (treeRecords (recordsOf input))) (queryRecords (recordsOf input))) _ (headFrom input, madeFrom input) query
         ∙ rw (
           le-leb (workFor input) (length first) (omega (arith, s .constants .asked)),
           le-leb (length (madeFrom input)) entries (omega (arith, d .few)),
@@ -99,7 +99,7 @@ module _ (input : List ℕ) (t : State) (all : List Record) (s : Stopped input t
     module _ (work work′ : List ℕ) (rest : drop (t .asked) work ≡ drop (t .asked) first)
         (e : work′ ≡ paste work 0 (replicate (t .asked) 0) (t .asked)) where
       pub finished-refused : t .over ≡ true
-          → (refused 6 ≡ told {B = Head} (λ a. a .0) (build input (length first) entries))
+          → (refused (no 6) ≡ told {B = Head} (λ a. a .0) (build input (length first) entries))
           × (work′ ≡ workAfter (build input (length first) entries) (workFor input) first)
       finished-refused past = rw (built-refused past) (refl, cleared work work′ rest e)
 

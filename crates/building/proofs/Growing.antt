@@ -14,8 +14,8 @@ use Rattle.paper.specs.Building.{Slots, Split, acceptStep, allPlaces, branchSte
 use Rattle.paper.specs.Lists.{has, through, upTo}
 use Rattle.paper.specs.Query.{Query, Rule, branchRule, leafRule}
 use Rattle.paper.specs.Records.{productOf, singleOf, unionOf}
-use Rattle.paper.specs.Refusals.{Test, answer, build, headFrom, madeFrom, queryPart, refused, treePart, workFor}
-use Rattle.paper.specs.Stream.{StreamRecord, number, queryRecords, recordsOf, treeRecords}
+use Rattle.paper.specs.Refusals.{Test, answer, build, headFrom, madeFrom, queryPart, refused, treePart, workFor, no}
+use Rattle.paper.specs.Stream.{StreamRecord, behind, number, queryRecords, recordsOf, treeRecords}
 use Rattle.paper.specs.Tree.{Tree, root, treeOf}
 use Rattle.laws.proofs.Replies.{Passes, unless-append}
 use Rattle.laws.specs.Plain.{Head, Record, Set, at, empty, unit}
@@ -157,11 +157,11 @@ module _ (Q : Query) (records : List StreamRecord) (p : Passes (treePart records
 -- ---- the refusal
 -- a stream that is fine, with work enough, is refused with 6 where more records than fit are made, at the end or before
 pub grows-refused : (input : List ℕ) (workLength tableLength : ℕ) → Passes (treePart (treeRecords (recordsOf input)))
-    → Passes (queryPart (queryRecords (recordsOf input))) → workFor input ≤ workLength
-    → {s : List Record} → Grows s (madeFrom input) → min tableLength mostRecords < length s → build input workLength tableLength ≡ refused 6
+    → Passes (queryPart (behind 0 (treeRecords (recordsOf input))) (queryRecords (recordsOf input))) → workFor input ≤ workLength
+    → {s : List Record} → Grows s (madeFrom input) → min tableLength mostRecords < length s → build input workLength tableLength ≡ refused (no 6)
 grows-refused input workLength tableLength tree query work g many =
-    unless-append (treePart (treeRecords (recordsOf input))) (queryPart (queryRecords (recordsOf input)) ++ room) built tree
-    ∙ unless-append (queryPart (queryRecords (recordsOf input))) room built query
+    unless-append (treePart (treeRecords (recordsOf input))) (queryPart (behind 0 (treeRecords (recordsOf input))) (queryRecords (recordsOf input)) ++ room) built tree
+    ∙ unless-append (queryPart (behind 0 (treeRecords (recordsOf input))) (queryRecords (recordsOf input))) room built query
     ∙ rw (le-leb (workFor input) workLength work) (go (leb used tableLength) (leb used mostRecords) refl refl)
   where
     built : Head × List Record
@@ -171,9 +171,9 @@ grows-refused input workLength tableLength tree query work g many =
     used = length (madeFrom input)
 
     room : List Test
-    room = (5, leb (workFor input) workLength) ∷ (6, leb used tableLength && leb used mostRecords) ∷ []
+    room = (no 5, leb (workFor input) workLength) ∷ (no 6, leb used tableLength && leb used mostRecords) ∷ []
 
-    go : (c d : Bool) → leb used tableLength ≡ c → leb used mostRecords ≡ d → cond (c && d) (answer built) (refused 6) ≡ refused 6
+    go : (c d : Bool) → leb used tableLength ≡ c → leb used mostRecords ≡ d → cond (c && d) (answer built) (refused (no 6)) ≡ refused (no 6)
     go true true e k =
         absurd (omega (arith, leb-true used tableLength e, leb-true used mostRecords k, grows-past g (min tableLength mostRecords) many))
     go true false e k = refl

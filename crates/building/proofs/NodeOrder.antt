@@ -3,8 +3,8 @@
 -- First records in two parts, for a loop that has passed the first; then the stack after any records, and after all of them; last
 -- what the tests at a branch give.
 use mathlib.Core.Bool.{Bool, cond, false, true}
-use mathlib.Core.List.{List, [], _++_, _∷_, append-assoc, append-nil}
-use mathlib.Core.Path.{_∙_, _≡_, ap, refl, sym}
+use mathlib.Core.List.{List, [], _++_, _∷_}
+use mathlib.Core.Path.{_∙_, _≡_, ap, refl, subst, sym}
 use Prim.Native.Nat.{_+_, _≤_, suc, ℕ}
 use native.Mathlib.Omega.{arith}
 use borrow.Author.Tests.{eqb-true, leb-true, ne-eqb}
@@ -13,9 +13,10 @@ use lib.ListN.{length}
 use Rattle.paper.specs.Building.{Slots, recordSets, slotsOf}
 use Rattle.paper.specs.Lists.{through}
 use Rattle.paper.specs.Query.{Query}
-use Rattle.paper.specs.Refusals.{Test, atEach, treeEndTests, treePart, treeTests}
-use Rattle.paper.specs.Stream.{StreamRecord, number}
+use Rattle.paper.specs.Refusals.{StreamTest, atEach, testsAt, treeEndTests, treePart, treeTests}
+use Rattle.paper.specs.Stream.{StreamRecord, behind, number}
 use Rattle.paper.specs.Tree.{Tree, grow, join, lastOf, leaf, treeOf, unjoined}
+use Rattle.laws.proofs.AtEach.{at-passes, each-append, part-each, part-end}
 use Rattle.laws.proofs.Replies.{Passes, passes-left, passes-right}
 use Rattle.laws.specs.Plain.{Record, Set}
 use Rattle.building.specs.Kinds.{leafKind}
@@ -108,22 +109,23 @@ module _ (Q : Query) where
   node-order records p =
       unjoined-slots records
       ∙ one-tree (unjoined records) []
-      (eqb-true (length (unjoined records)) 1 (passes-right (atEach treeTests [] records) (treeEndTests records) p .1 .0))
+      (eqb-true (length (unjoined records)) 1 (part-end treeTests treeEndTests 0 records p .1 .0))
 
 -- ---- the tests
 -- at a record that stands behind others
-pub tests-at : (tests : List StreamRecord → StreamRecord → List Test) (passed before : List StreamRecord)
+pub tests-at : (tests : List StreamRecord → StreamRecord → List StreamTest) (from : ℕ) (passed before : List StreamRecord)
     (r : StreamRecord) (rest : List StreamRecord)
-    → Passes (atEach tests passed (before ++ (r ∷ rest))) → Passes (tests (passed ++ before) r)
-tests-at tests passed [] r rest p = rw append-nil (passes-left (tests passed r) (atEach tests (passed ++ (r ∷ [])) rest) p)
-tests-at tests passed (x ∷ xs) r rest p =
-    rw append-assoc at
-    (tests-at tests (passed ++ (x ∷ [])) xs r rest (passes-right (tests passed x) (atEach tests (passed ++ (x ∷ [])) (xs ++ (r ∷ rest))) p))
+    → Passes (atEach tests from passed (before ++ (r ∷ rest))) → Passes (tests (passed ++ before) r)
+tests-at tests from passed before r rest p =
+    at-passes (behind from (passed ++ before)) (tests (passed ++ before) r)
+    (passes-left (testsAt (behind from (passed ++ before)) (tests (passed ++ before) r)) _
+    (passes-right (atEach tests from passed before) (atEach tests from (passed ++ before) (r ∷ rest))
+    (subst Passes (each-append tests from passed before (r ∷ rest)) p)))
 
 -- a branch of a tree whose tests pass has two subtrees to join
 pub two-unjoined : (before : List StreamRecord) (r : StreamRecord) (rest : List StreamRecord) → Passes (treePart (before ++ (r ∷ rest)))
     → (r .kind ≡ leafKind → ⊥) → 2 ≤ length (unjoined before)
 two-unjoined before r rest p e =
     let records : List StreamRecord = before ++ (r ∷ rest) in
-    let q = tests-at treeTests [] before r rest (passes-left (atEach treeTests [] records) (treeEndTests records) p) in
+    let q = tests-at treeTests 0 [] before r rest (part-each treeTests treeEndTests 0 records p) in
     leb-true 2 (length (unjoined before)) (rw (ne-eqb (r .kind) leafKind e) at (q .1 .1 .1 .0))

@@ -4,7 +4,7 @@ use mathlib.Core.Bool.{_&&_, false, true, true≢false}
 use mathlib.Core.List.{List, _++_, _∷_, Memᴰ·append-right, append-assoc}
 use mathlib.Core.Logic.{inl, inr, ⊎-elim}
 use mathlib.Core.Path.{_∙_, _≡_, ap, refl, subst, sym}
-use Prim.Native.Nat.{_+_, _<_, _^_, _≤_, ℕ}
+use Prim.Native.Nat.{_*_, _+_, _<_, _^_, _≤_, ℕ}
 use native.Mathlib.Omega.{arith}
 use borrow.Author.Tests.{eq-eqb, eqb-true, ne-eqb}
 use lib.Dec.{eqb}
@@ -12,7 +12,7 @@ use lib.ListN.{drop, getD, length, length-append}
 use Rattle.paper.specs.Building.{Slots, branchStep, leafStep, recordSets, splits, splitsBy}
 use Rattle.paper.specs.Lists.{_∈_, through}
 use Rattle.paper.specs.Query.{Query, Rule, branchRule, isRuleKind, leafRule, rulesOf}
-use Rattle.paper.specs.Refusals.{queryIn, queryPart}
+use Rattle.paper.specs.Refusals.{nodesIn, queryIn, queryPart}
 use Rattle.paper.specs.Stream.{StreamRecord, bodyLength, number, recordsOf}
 use Rattle.laws.proofs.Lists.{both-true, here as first-of}
 use Rattle.laws.proofs.Replies.{Passes}
@@ -139,8 +139,8 @@ module _ (input : List ℕ) (t : State) (k : Constants input t) (here : StreamRe
       (whole-later input (k .query) (recordAt input (t .rule))
       (subst (λ rs. recordAt input (t .rule) ∈ rs) (sym later-here) (Memᴰ·append-right (a .passed) first-of)))
 
-  passes-here : Passes (queryPart (headRecord input ∷ (a .passed ++ (recordAt input (t .rule) ∷ recordsOf (drop (after input (t .rule)) input)))))
-  passes-here = subst (λ rs. Passes (queryPart (headRecord input ∷ rs))) later-here (query-passes input (k .query))
+  passes-here : Passes (queryPart (2 * nodesIn input) (headRecord input ∷ (a .passed ++ (recordAt input (t .rule) ∷ recordsOf (drop (after input (t .rule)) input)))))
+  passes-here = subst (λ rs. Passes (queryPart (2 * nodesIn input) (headRecord input ∷ rs))) later-here (query-passes input (k .query))
 
   arity-here : 2 ^ number (headRecord input) 0 ≡ 2 ^ t .arity
   arity-here = ap (λ x. 2 ^ x) (sym (k .arity ∙ arity-is input (k .query)))
@@ -179,7 +179,7 @@ module _ (input : List ℕ) (t : State) (k : Constants input t) (here : StreamRe
       state-byte = byte 2 (t .rule + 3) (omega arith) (omega arith)
 
       numbers : (number R 1 < 2 ^ number (headRecord input) 0) × (number R 2 < number (headRecord input) 1)
-      numbers = leaf-numbers (headRecord input) (a .passed) R (recordsOf (drop (after input (t .rule)) input)) passes-here kind
+      numbers = leaf-numbers (2 * nodesIn input) (headRecord input) (a .passed) R (recordsOf (drop (after input (t .rule)) input)) passes-here kind
 
   -- a branch's rule
   pub branch-rule-at : here .kind ≡ 2 → BranchRuleAt input t (number here 0)
@@ -223,7 +223,7 @@ module _ (input : List ℕ) (t : State) (k : Constants input t) (here : StreamRe
 
       numbers : (number R 1 < 2 ^ number (headRecord input) 0) × (number R 2 < number (headRecord input) 1)
           × (number R 3 < number (headRecord input) 1) × (number R 4 < number (headRecord input) 1)
-      numbers = branch-numbers (headRecord input) (a .passed) R (recordsOf (drop (after input (t .rule)) input)) passes-here kind
+      numbers = branch-numbers (2 * nodesIn input) (headRecord input) (a .passed) R (recordsOf (drop (after input (t .rule)) input)) passes-here kind
 
   -- ---- the next rule
   module _ (next : ℕ) (s : NextRule input (after input (t .rule)) (here .kind + ruleAbove) (number here 0) next) where

@@ -9,10 +9,11 @@ use native.Mathlib.Omega.{arith}
 use borrow.Author.Tests.{leb-true, ltb-true}
 use lib.ListN.{getD, length, length-append}
 use Rattle.paper.specs.Building.{buildWork}
-use Rattle.paper.specs.Refusals.{atEach, nodesIn, queryIn, treeEndTests, treePart, treeTests}
+use Rattle.paper.specs.Refusals.{nodesIn, queryIn, treeEndTests, treePart, treeTests}
 use Rattle.paper.specs.Stream.{StreamRecord, bodyLength, number, whole}
 use Rattle.paper.specs.Tree.{Tree, grow, mostFrom, mostUnjoined, unjoined}
-use Rattle.laws.proofs.Replies.{Passes, passes-left}
+use Rattle.laws.proofs.AtEach.{part-each}
+use Rattle.laws.proofs.Replies.{Passes}
 use Rattle.laws.proofs.StreamPlaces.{tree-kind}
 use Rattle.laws.specs.StreamCauses.{RuleKind, TreeKind}
 use Rattle.stream.specs.Positions.{recordAt}
@@ -44,7 +45,7 @@ module _ (input : List ℕ) (t : State) (k : Constants input t) (n : AtNode inpu
   tests-here : Passes (treeTests (n .before) (n .here))
   tests-here =
       let all : List StreamRecord = n .before ++ (n .here ∷ n .behind) in
-      tests-at treeTests [] (n .before) (n .here) (n .behind) (passes-left (atEach treeTests [] all) (treeEndTests all) tests)
+      tests-at treeTests 0 [] (n .before) (n .here) (n .behind) (part-each treeTests treeEndTests 0 all tests)
 
   place : TreePlace input (2 * length (n .before)) (n .here)
   place = tree-place (n .before) (n .here) (n .behind) input (n .records)

@@ -6,10 +6,12 @@ use Prim.Native.Nat.{_*_, _≤_, ℕ}
 use native.Mathlib.Omega.{arith}
 use borrow.Author.Tests.{leb-true}
 use lib.Dec.{leb}
+use lib.ListN.{drop}
 use Rattle.paper.specs.Lists.{_∈_}
 use Rattle.paper.specs.Query.{acceptingOf, queryOf, rulesOf}
-use Rattle.paper.specs.Refusals.{answer, atEach, headTests, nodesIn, queryEndTests, queryIn, queryPart, queryTests, treePart}
-use Rattle.paper.specs.Stream.{StreamRecord, number, queryRecords, recordsOf, treeRecords, whole}
+use Rattle.paper.specs.Refusals.{answer, atEach, headTests, nodesIn, queryEndTests, queryIn, queryPart, queryTests, testsAt, treePart}
+use Rattle.paper.specs.Stream.{StreamRecord, behind, number, queryRecords, recordsOf, treeRecords, whole}
+use Rattle.laws.proofs.AtEach.{at-passes, part-each}
 use Rattle.laws.proofs.Lists.{both-true}
 use Rattle.laws.proofs.Replies.{Passes, answered, passes-left}
 use Rattle.stream.specs.Positions.{recordAt}
@@ -30,17 +32,25 @@ module _ (input : List ℕ) (query : queryReply input (2 * nodesIn input) ≡ an
   query-records : queryRecords (recordsOf input) ≡ headRecord input ∷ laterRecords input
   query-records = query-after-tree input ∙ records-read input (2 * nodesIn input) (queryFacts input (2 * nodesIn input)) (sym query)
 
-  pub query-part-passes : Passes (queryPart (queryRecords (recordsOf input)))
-  query-part-passes = answered (queryPart (queryRecords (recordsOf input))) (sym (reply-after-tree input) ∙ query) .0
+  -- where the query begins
+  abbrev from : ℕ
+  from = 2 * nodesIn input
 
-  pub query-passes : Passes (queryPart (headRecord input ∷ laterRecords input))
-  query-passes = subst (λ (rs : List StreamRecord). Passes (queryPart rs)) query-records query-part-passes
+  pub query-passes : Passes (queryPart from (headRecord input ∷ laterRecords input))
+  query-passes =
+      subst (λ (rs : List StreamRecord). Passes (queryPart from rs)) (sym (query-after-tree input) ∙ query-records)
+      (answered (queryPart from (recordsOf (drop from input))) query .0)
+
+  pub query-part-passes : Passes (treePart (treeRecords (recordsOf input)))
+      → Passes (queryPart (behind 0 (treeRecords (recordsOf input))) (queryRecords (recordsOf input)))
+  query-part-passes tree = answered (queryPart _ (queryRecords (recordsOf input))) (sym (reply-after-tree input tree) ∙ query) .0
 
   head-passes : Passes (headTests (headRecord input))
   head-passes =
       let records : List StreamRecord = headRecord input ∷ laterRecords input in
-      passes-left (headTests (headRecord input)) (atEach queryTests (headRecord input ∷ []) (laterRecords input))
-      (passes-left (atEach queryTests [] records) (queryEndTests records) query-passes)
+      at-passes from (headTests (headRecord input))
+      (passes-left (testsAt from (headTests (headRecord input))) (atEach queryTests from (headRecord input ∷ []) (laterRecords input))
+      (part-each queryTests queryEndTests from records query-passes))
 
   pub whole-later : (r : StreamRecord) → r ∈ laterRecords input → whole r ≡ true
   whole-later = whole-read input (2 * nodesIn input) (queryFacts input (2 * nodesIn input)) (sym query)

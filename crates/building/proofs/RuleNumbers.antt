@@ -11,10 +11,11 @@ use lib.ListN.{drop, getD, length, length-drop}
 use lib.Seq.{getD-drop}
 use Rattle.paper.specs.Lists.{allBelow}
 use Rattle.paper.specs.Query.{isRuleKind, queryOf}
-use Rattle.paper.specs.Refusals.{atEach, headTests, laterTests, queryEndTests, queryPart, queryTests}
+use Rattle.paper.specs.Refusals.{atEach, headTests, laterTests, queryEndTests, queryPart, queryTests, testsAt}
 use Rattle.paper.specs.Stream.{StreamRecord, bodyLength, number}
 use Rattle.laws.proofs.Lists.{both-true}
-use Rattle.laws.proofs.Replies.{Passes, passes-left, passes-right}
+use Rattle.laws.proofs.AtEach.{part-each}
+use Rattle.laws.proofs.Replies.{Passes, passes-right}
 use Rattle.building.specs.Kinds.{branchRuleKind, leafRuleKind}
 use Rattle.building.proofs.NodeOrder.{tests-at}
 
@@ -24,14 +25,14 @@ all-below bound [] e i h = absurd (omega arith)
 all-below bound (x ∷ xs) e zero h = ltb-true x bound (both-true (ltb x bound) (allBelow bound xs) e .0)
 all-below bound (x ∷ xs) e (suc i) h = all-below bound xs (both-true (ltb x bound) (allBelow bound xs) e .1) i (omega arith)
 
-module _ (head : StreamRecord) (before : List StreamRecord) (r : StreamRecord) (rest : List StreamRecord)
-    (p : Passes (queryPart (head ∷ (before ++ (r ∷ rest))))) where
+module _ (from : ℕ) (head : StreamRecord) (before : List StreamRecord) (r : StreamRecord) (rest : List StreamRecord)
+    (p : Passes (queryPart from (head ∷ (before ++ (r ∷ rest))))) where
   tests : Passes (laterTests (queryOf (head ∷ before)) r)
   tests =
       let records : List StreamRecord = before ++ (r ∷ rest) in
-      tests-at queryTests (head ∷ []) before r rest
-      (passes-right (headTests head) (atEach queryTests (head ∷ []) records)
-      (passes-left (atEach queryTests [] (head ∷ records)) (queryEndTests (head ∷ records)) p))
+      tests-at queryTests from (head ∷ []) before r rest
+      (passes-right (testsAt from (headTests head)) (atEach queryTests from (head ∷ []) records)
+      (part-each queryTests queryEndTests from (head ∷ records) p))
 
   is-whole : length (r .body) ≡ bodyLength (r .kind)
   is-whole = eqb-true (length (r .body)) (bodyLength (r .kind)) (tests .1 .0)

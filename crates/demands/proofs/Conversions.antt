@@ -13,9 +13,9 @@ use Rattle.paper.specs.BracketedText.{Writes}
 use Rattle.paper.specs.CanonicalText.{textOf}
 use Rattle.paper.specs.Conversions.{Conversion, Images, no-room, of-none, the-result}
 use Rattle.paper.specs.Image.{imageBytes}
-use Rattle.paper.specs.Refusals.{Reply, answer, outputAfter, refused}
+use Rattle.paper.specs.Refusals.{No, Reply, answer, no, noAt, outputAfter, refused}
 use Rattle.paper.specs.WrittenTree.{WrittenTree}
-use Rattle.laws.specs.First.{FirstOf, NoneOf}
+use Rattle.laws.specs.First.{Alone, FirstOf, NoneOf}
 use Rattle.laws.proofs.Answers.{one-converted}
 use Rattle.laws.proofs.Judged.{first-not-none}
 use Rattle.writings.proofs.Replies.{one-right}
@@ -29,16 +29,17 @@ use Rattle.demands.proofs.Refusals.{Told, exact-reply}
 -- ---- the law
 -- a number is replied exactly if it is that of the first cause that applies
 module _ (Of : WrittenTree → Type 0) (result : WrittenTree → List ℕ) (room : ℕ) where
-  refuses : (n : ℕ) → Conversion Of result room (refused n) → FirstOf conversionOrder (Cause Of result room) n
+  refuses : (w : No) → Conversion Of result room (refused w) → Alone (FirstOf conversionOrder (Cause Of result room)) w
   refuses _ (of-none never) = inl (inl (refl, never), refl)
   refuses _ (no-room {w} g h) = inr (⊎-elim (λ (e, never). never w g) (λ (e, x). omega arith), inl (inr (refl, (w, g, h)), refl))
 
-  first : (n : ℕ) → FirstOf conversionOrder (Cause Of result room) n → Conversion Of result room (refused n)
-  first n (inl (inl (e, never), m)) = subst (λ x. Conversion Of result room (refused x)) (sym m) (of-none never)
-  first n (inl (inr (e, x), m)) = absurd (omega arith)
-  first n (inr (h, inl (inl (e, never), m))) = absurd (omega arith)
-  first n (inr (h, inl (inr (e, (w, g, short)), m))) = subst (λ x. Conversion Of result room (refused x)) (sym m) (no-room g short)
-  first n (inr (h, inr (h′, f))) = absurd f
+  first : (w : No) → Alone (FirstOf conversionOrder (Cause Of result room)) w → Conversion Of result room (refused w)
+  first (no n) (inl (inl (e, never), m)) = subst (λ x. Conversion Of result room (refused (no x))) (sym m) (of-none never)
+  first (no n) (inl (inr (e, x), m)) = absurd (omega arith)
+  first (no n) (inr (h, inl (inl (e, never), m))) = absurd (omega arith)
+  first (no n) (inr (h, inl (inr (e, (w, g, short)), m))) = subst (λ x. Conversion Of result room (refused (no x))) (sym m) (no-room g short)
+  first (no n) (inr (h, inr (h′, f))) = absurd f
+  first (noAt n p) f = absurd f
 
 converted-cases : (r : Converted) → Told ConvertedIs.Refused saysConverted r
 converted-cases (ConvertedIs.Bytes n) = inr (n, refl)
@@ -65,7 +66,7 @@ module _ (Of : WrittenTree → Type 0) (result : WrittenTree → List ℕ) (one-
   )
 
   exact : (r : Converted) (out′ : List ℕ) → Converts (Conversion Of result (length out)) out r out′
-      → Exact ConvertedIs.Refused r (FirstOf conversionOrder (Cause Of result (length out))) (NoneOf conversionOrder (Cause Of result (length out)))
+      → Exact ConvertedIs.Refused r (Alone (FirstOf conversionOrder (Cause Of result (length out)))) (NoneOf conversionOrder (Cause Of result (length out)))
   exact r out′ c =
       exact-reply ConvertedIs.Refused saysConverted (λ why. refl) converted-cases length (c .reply) r (c .answer)
       (λ n. (
@@ -76,7 +77,9 @@ module _ (Of : WrittenTree → Type 0) (result : WrittenTree → List ℕ) (one-
     where
       answered : (reply : Reply (List ℕ)) → Conversion Of result (length out) reply → NoneOf conversionOrder (Cause Of result (length out))
           → (bytes : List ℕ) × (reply ≡ answer bytes)
-      answered (refused n) g none = absurd (first-not-none conversionOrder (Cause Of result (length out)) n (refuses Of result (length out) n g) none)
+      answered (refused (no n)) g none =
+          absurd (first-not-none conversionOrder (Cause Of result (length out)) n (refuses Of result (length out) (no n) g) none)
+      answered (refused (noAt n p)) g none = absurd (refuses Of result (length out) (noAt n p) g)
       answered (answer bytes) g none = (bytes, refl)
 
 -- ---- text to tree
@@ -85,7 +88,7 @@ module _ (text out : List ℕ) where
   one-text-to-tree = one-conversion (Writes text) imageBytes (one-tree text) out
 
   pub text-to-tree-exact : (r : Converted) (out′ : List ℕ) → MakesTree text out r out′
-      → Exact ConvertedIs.Refused r (FirstOf conversionOrder (TreeCause text (length out))) (NoneOf conversionOrder (TreeCause text (length out)))
+      → Exact ConvertedIs.Refused r (Alone (FirstOf conversionOrder (TreeCause text (length out)))) (NoneOf conversionOrder (TreeCause text (length out)))
   text-to-tree-exact = exact (Writes text) imageBytes (one-tree text) out
 
 -- ---- tree to text
@@ -94,5 +97,5 @@ module _ (bytes out : List ℕ) where
   one-tree-to-text = one-conversion (Images bytes) textOf (one-image bytes) out
 
   pub tree-to-text-exact : (r : Converted) (out′ : List ℕ) → MakesText bytes out r out′
-      → Exact ConvertedIs.Refused r (FirstOf conversionOrder (TextCause bytes (length out))) (NoneOf conversionOrder (TextCause bytes (length out)))
+      → Exact ConvertedIs.Refused r (Alone (FirstOf conversionOrder (TextCause bytes (length out)))) (NoneOf conversionOrder (TextCause bytes (length out)))
   tree-to-text-exact = exact (Images bytes) textOf (one-image bytes) out

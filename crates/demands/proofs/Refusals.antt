@@ -1,5 +1,5 @@
 -- Demand 1 of the functions: a call, known by its contract alone, returns a number exactly if that is the first in the paper's order
--- whose cause applies, and answers exactly if no cause does. First one law for every answer enum, then the six functions of document 01.
+-- whose cause applies, with 1 to 4 at the position of the record at fault, and answers exactly if no cause does. First one law for every answer enum, then the six functions of document 01.
 use mathlib.Core.List.{List}
 use mathlib.Core.Logic.{Iff·trans, _↔_, _⊎_, inl, inr, ⊎-elim}
 use mathlib.Core.Path.{_∙_, _≡_, ap, refl, sym}
@@ -20,12 +20,12 @@ use Rattle.paper.specs.declared.Record.{Record}
 use Rattle.paper.specs.declared.Refusal.{Refusal}
 use Rattle.paper.specs.declared.Written.{Written}
 use Rattle.paper.specs.declared.Written.the-variants as WrittenIs
-use Rattle.paper.specs.Answers.{numberOf, saysBuilt, saysCounted, saysFixed, saysMember, saysProjected, saysWritten, told}
-use Rattle.paper.specs.Refusals.{Reply, Test, answer, askTests, buildTests, fixTests, memberTests, projectTests, refused, rowTests, unless}
+use Rattle.paper.specs.Answers.{noOf, saysBuilt, saysCounted, saysFixed, saysMember, saysProjected, saysWritten, told}
+use Rattle.paper.specs.Refusals.{No, Reply, Test, answer, askTests, buildTests, fixTests, memberTests, projectTests, refused, rowTests, unless}
 use Rattle.paper.specs.Row.{Row}
-use Rattle.laws.specs.First.{FirstOf, NoneOf}
+use Rattle.laws.specs.First.{NoneOf}
 use Rattle.laws.specs.QuestionCauses.{CountCause, FixCause, MemberCause, NumberCause, ProjectCause}
-use Rattle.laws.specs.StreamCauses.{BuildCause, StreamFine, StreamRefused, buildOrder}
+use Rattle.laws.specs.StreamCauses.{BuildCause, BuildRefused, StreamFine, buildOrder}
 use Rattle.laws.proofs.QuestionRefusals.{count-answers, count-refused, fix-answers, fix-refused, member-answers, member-refused, project-answers, project-refused, rowByNumber-answers, rowByNumber-refused}
 use Rattle.laws.proofs.Replies.{answered, refused-inj, refused-not-answer}
 use Rattle.laws.proofs.StreamRefusals.{build-answers, build-refused}
@@ -43,7 +43,7 @@ abbrev pub Told : {Result A : Type 0} → (Refusal → Result) → (Result → R
 Told {A = A} Refused says r = ((why : Refusal) × (r ≡ Refused why)) ⊎ ((a : A) × (says r ≡ answer a))
 
 -- what is told of an answer is an answer, and of a refusal the refusal
-pub told-refused : {A B : Type 0} (f : A → B) (reply : Reply A) (n : ℕ) → (told f reply ≡ refused n) ↔ (reply ≡ refused n)
+pub told-refused : {A B : Type 0} (f : A → B) (reply : Reply A) (n : No) → (told f reply ≡ refused n) ↔ (reply ≡ refused n)
 told-refused f (refused m) n = (λ e. ap refused (refused-inj e), λ e. ap (told f) e)
 told-refused f (answer a) n = (λ e. absurd (refused-not-answer (sym e)), λ e. absurd (refused-not-answer (sym e)))
 
@@ -56,17 +56,17 @@ told-same (refused n) = refl
 told-same (answer a) = refl
 
 -- a result that says what a reply is, where that is exact
-module _ {Result A B : Type 0} (Refused : Refusal → Result) (says : Result → Reply B) (refuses : (why : Refusal) → says (Refused why) ≡ refused (numberOf why))
+module _ {Result A B : Type 0} (Refused : Refusal → Result) (says : Result → Reply B) (refuses : (why : Refusal) → says (Refused why) ≡ refused (noOf why))
     (cases : (r : Result) → Told Refused says r) where
-  pub exact-reply : (f : A → B) (reply : Reply A) (r : Result) → says r ≡ told f reply → {First : ℕ → Type 0} {None : Type 0}
-      → ((n : ℕ) → (reply ≡ refused n) ↔ First n) → ((a : A) × (reply ≡ answer a)) ↔ None → Exact Refused r First None
+  pub exact-reply : (f : A → B) (reply : Reply A) (r : Result) → says r ≡ told f reply → {First : No → Type 0} {None : Type 0}
+      → ((n : No) → (reply ≡ refused n) ↔ First n) → ((a : A) × (reply ≡ answer a)) ↔ None → Exact Refused r First None
   exact-reply f reply r is {First} {None} firsts none = record {
     returns = λ n. Iff·trans (returned n) (Iff·trans (told-refused f reply n) (firsts n));
     answers = Iff·trans (λ w. given (cases r) w, λ (a, e) why q. refused-not-answer (sym (refuses why) ∙ ap says (sym q) ∙ is ∙ ap (told f) e)) none;
   }
     where
-      -- the number returned is the number said
-      returned : (n : ℕ) → Returns Refused r n ↔ (told f reply ≡ refused n)
+      -- what is returned is what is said
+      returned : (n : No) → Returns Refused r n ↔ (told f reply ≡ refused n)
       returned n = (
         λ (why, e, number). sym is ∙ ap says e ∙ refuses why ∙ ap refused number,
         λ e. ⊎-elim
@@ -81,8 +81,8 @@ module _ {Result A B : Type 0} (Refused : Refusal → Result) (says : Result →
       given (inr (b, q)) w = told-answer f reply b (sym is ∙ q)
 
   -- and what tests in an order come to
-  exact : (f : A → B) (ts : List Test) (a : A) (r : Result) → says r ≡ told f (unless ts a) → {First : ℕ → Type 0} {None : Type 0}
-      → ((n : ℕ) → (unless ts a ≡ refused n) ↔ First n) → (unless ts a ≡ answer a) ↔ None → Exact Refused r First None
+  exact : (f : A → B) (ts : List Test) (a : A) (r : Result) → says r ≡ told f (unless ts a) → {First : No → Type 0} {None : Type 0}
+      → ((n : No) → (unless ts a ≡ refused n) ↔ First n) → (unless ts a ≡ answer a) ↔ None → Exact Refused r First None
   exact f ts a r is firsts none =
       exact-reply f (unless ts a) r is firsts (Iff·trans (λ (b, e). e ∙ ap answer (sym (answered ts e .1)), λ e. (a, e)) none)
 
@@ -92,8 +92,7 @@ built-cases (BuiltIs.Set h) = inr (h, refl)
 built-cases (BuiltIs.Refused why) = inl (why, refl)
 
 pub build-exact : (input work work′ : List ℕ) (table table′ : List Record) (r : Built) → Builds input work table r work′ table′
-    → Exact BuiltIs.Refused r
-    (λ n. StreamRefused input n ⊎ (StreamFine input × FirstOf buildOrder (BuildCause input (length work) (length table)) n))
+    → Exact BuiltIs.Refused r (BuildRefused input (length work) (length table))
     (StreamFine input × NoneOf buildOrder (BuildCause input (length work) (length table)))
 build-exact input work work′ table table′ r c =
     exact BuiltIs.Refused saysBuilt (λ why. refl) built-cases (λ a. a .0) (buildTests input (length work) (length table)) _ r (c .answer)

@@ -8,10 +8,10 @@ use Rattle.paper.specs.declared.Fixed.{Fixed}
 use Rattle.paper.specs.declared.Fixed.the-variants as FixedIs
 use Rattle.paper.specs.declared.Head.{Head}
 use Rattle.paper.specs.declared.Record.{Record}
-use Rattle.paper.specs.Answers.{numberOf}
+use Rattle.paper.specs.Answers.{noOf}
 use Rattle.paper.specs.Questions.{questionWork}
 use Rattle.paper.specs.Records.{listing}
-use Rattle.paper.specs.Refusals.{Reply, refused, answer}
+use Rattle.paper.specs.Refusals.{No, Reply, refused, answer}
 use Rattle.laws.specs.Fixings.{Entries, FixedFrom, Fixing, GoodSet, narrowed}
 use Rattle.fix.specs.Face.{Fixes}
 
@@ -28,9 +28,9 @@ pub record Call : Type 0 where
 abbrev pub fixingsIn : List Call → List Fixing
 fixingsIn cs = map (λ c. c .fixing) cs
 
--- what follows a result: of the number, if it was refused, or of the head
-abbrev pub following {ℓ} : {A : Type ℓ} → Fixed → (ℕ → A) → (Head → A) → A
-following (FixedIs.Refused r) stop go = stop (numberOf r)
+-- what follows a result: of what says no, if it was refused, or of the head
+abbrev pub following {ℓ} : {A : Type ℓ} → Fixed → (No → A) → (Head → A) → A
+following (FixedIs.Refused r) stop go = stop (noOf r)
 following (FixedIs.Set h) stop go = go h
 
 -- each call is made on the set that the one before it answered and left in its target; its target has so many entries, and its work
@@ -40,9 +40,9 @@ Made entries [] h table = Unit {0}
 Made entries (c ∷ cs) h table =
     (entries h ≤ length (c .target)) × (questionWork h ≤ length (c .work))
     × Fixes h table (c .work) (c .fixing .place) (c .fixing .node) (c .target) (c .result) (c .work′) (c .target′)
-    × following (c .result) (λ number. Unit {0}) (λ head. Made entries cs head (c .target′))
+    × following (c .result) (λ no. Unit {0}) (λ head. Made entries cs head (c .target′))
 
--- the set behind the last call, or the number of the first that was refused
+-- the set behind the last call, or what the first that was refused says
 abbrev pub lastSet : List Call → Head → List Record → Reply (Head × List Record)
 lastSet [] h table = answer (h, table)
 lastSet (c ∷ cs) h table = following (c .result) refused (λ head. lastSet cs head (c .target′))

@@ -15,10 +15,10 @@ use Rattle.paper.specs.declared.Fixed.the-variants as FixedIs
 use Rattle.paper.specs.declared.Head.{Head}
 use Rattle.paper.specs.declared.Refusal.{Refusal}
 use Rattle.paper.specs.declared.Refusal.the-variants.{Node, Place, ShortTable}
-use Rattle.paper.specs.Answers.{numberOf, saysFixed, told}
+use Rattle.paper.specs.Answers.{numberOf, saysFixed, told, noOf}
 use Rattle.paper.specs.Questions.{fixedSet, imageOf, imagesOf, questionWork, unitTwice, without}
 use Rattle.paper.specs.Records.{blankEntry, usedOf}
-use Rattle.paper.specs.Refusals.{Reply, Test, answer, fix, isOpen, over, refused, targetAfter, unless, workAfter}
+use Rattle.paper.specs.Refusals.{Reply, Test, answer, fix, isOpen, over, refused, targetAfter, unless, workAfter, no}
 use Rattle.paper.specs.Sound.{entry}
 use Rattle.laws.specs.QuestionCauses.{IsProduct, IsSingle, IsUnion, SetFits, Sound, UnitTwice}
 use Rattle.laws.proofs.OpenPlaces.{open-from-one}
@@ -68,7 +68,7 @@ module _ (h : Head) (source : List Record) (work : List ℕ) (place n : ℕ) (ta
     pub refuses : s .refused ≡ true
     pub idle : s .going ≡ false
     pub room : s .used ≤ length w
-    pub number : reply ≡ refused (numberOf (s .refusal))
+    pub number : reply ≡ refused (noOf (s .refusal))
     pub left : over (replicate (s .used) 0) w ≡ workAfter reply (questionWork h) work
 
   -- the tests up to 6 pass, and 12 is left. The work behind the numbers of the records is as it was
@@ -78,7 +78,7 @@ module _ (h : Head) (source : List Record) (work : List ℕ) (place n : ℕ) (ta
     pub entries : h .used ≤ length target
     pub room : h .used ≤ length w
     pub rest : drop (h .used) w ≡ drop (h .used) work
-    pub asked : reply ≡ cond once (answer (fixedSet h source place n)) (refused 12)
+    pub asked : reply ≡ cond once (answer (fixedSet h source place n)) (refused (no 12))
 
   -- ---- the start
   abbrev pub AtStart : State → List ℕ → Type 0
@@ -86,7 +86,7 @@ module _ (h : Head) (source : List Record) (work : List ℕ) (place n : ℕ) (ta
 
   -- the tests after `weigh`'s
   abbrev later : List Test
-  later = (7, isOpen h place) ∷ (8, ltb n (h .nodes)) ∷ (6, leb (h .used) (length target)) ∷ (12, once) ∷ []
+  later = (no 7, isOpen h place) ∷ (no 8, ltb n (h .nodes)) ∷ (no 6, leb (h .used) (length target)) ∷ (no 12, once) ∷ []
 
   pub starts : (r : Weighed) (w : List ℕ) (s : State) → length w ≡ length work → Weighs h source work r w
       → s ≡ begun r h place n (length target) → AtStart s w
@@ -108,7 +108,7 @@ module _ (h : Head) (source : List Record) (work : List ℕ) (place n : ℕ) (ta
       enough : h .used ≤ length w
       enough = omega (arith, sound-room e refl)
 
-      refuse : (why : Refusal) → leb (numberOf why) 5 ≡ false → s ≡ refusedBy (h .used) why → reply ≡ refused (numberOf why) → AtStart s w
+      refuse : (why : Refusal) → leb (numberOf why) 5 ≡ false → s ≡ refusedBy (h .used) why → reply ≡ refused (noOf why) → AtStart s w
       refuse why late g r = inl (subst (λ (t : State). Refuses t w) (sym g) (record {
         refuses = refl;
         idle = refl;
@@ -120,13 +120,13 @@ module _ (h : Head) (source : List Record) (work : List ℕ) (place n : ℕ) (ta
       open-or-not : (c : Bool) → isOpen h place ≡ c
           → s ≡ cond c (cond (ltb n (h .nodes)) (cond (leb (h .used) (length target)) first (refusedBy (h .used) ShortTable)) (refusedBy (h .used) Node))
           (refusedBy (h .used) Place)
-          → reply ≡ cond c (unless ((8, ltb n (h .nodes)) ∷ (6, leb (h .used) (length target)) ∷ (12, once) ∷ []) (fixedSet h source place n)) (refused 7)
+          → reply ≡ cond c (unless ((no 8, ltb n (h .nodes)) ∷ (no 6, leb (h .used) (length target)) ∷ (no 12, once) ∷ []) (fixedSet h source place n)) (refused (no 7))
           → AtStart s w
       open-or-not false o g r = refuse Place refl g r
       open-or-not true o g r = in-tree (ltb n (h .nodes)) g r
         where
           fits : (c : Bool) → leb (h .used) (length target) ≡ c → s ≡ cond c first (refusedBy (h .used) ShortTable)
-              → reply ≡ cond c (cond once (answer (fixedSet h source place n)) (refused 12)) (refused 6) → AtStart s w
+              → reply ≡ cond c (cond once (answer (fixedSet h source place n)) (refused (no 12))) (refused (no 6)) → AtStart s w
           fits false l g r = refuse ShortTable refl g r
           fits true l g r = inr (
             g,
@@ -142,7 +142,7 @@ module _ (h : Head) (source : List Record) (work : List ℕ) (place n : ℕ) (ta
 
           in-tree : (c : Bool)
               → s ≡ cond c (cond (leb (h .used) (length target)) first (refusedBy (h .used) ShortTable)) (refusedBy (h .used) Node)
-              → reply ≡ cond c (unless ((6, leb (h .used) (length target)) ∷ (12, once) ∷ []) (fixedSet h source place n)) (refused 8) → AtStart s w
+              → reply ≡ cond c (unless ((no 6, leb (h .used) (length target)) ∷ (no 12, once) ∷ []) (fixedSet h source place n)) (refused (no 8)) → AtStart s w
           in-tree false g r = refuse Node refl g r
           in-tree true g r = fits (leb (h .used) (length target)) refl g r
 
@@ -223,12 +223,12 @@ module _ (h : Head) (source : List Record) (work : List ℕ) (place n : ℕ) (ta
         refuses = c;
         idle = found .stopped;
         room = omega (arith, found .used, known .room);
-        number = twelve ∙ ap (λ (why : Refusal). refused (numberOf why)) (sym (found .refusal));
+        number = twelve ∙ ap (λ (why : Refusal). refused (noOf why)) (sym (found .refusal));
         left = rw (found .used, twelve) (cleared-same (h .used) work w′ same);
       }))
         where
-          twelve : reply ≡ refused 12
-          twelve = known .asked ∙ ap (λ (b : Bool). cond b (answer (fixedSet h source place n)) (refused 12))
+          twelve : reply ≡ refused (no 12)
+          twelve = known .asked ∙ ap (λ (b : Bool). cond b (answer (fixedSet h source place n)) (refused (no 12)))
               (twice-fails (known .sound) (found .twice c .0) (found .twice c .1))
       go false c = inr (
         f ∙ restarted-open t c ∙ (λ j. started (found .used j) (found .place j) (found .node j)),
@@ -340,7 +340,7 @@ module _ (h : Head) (source : List Record) (work : List ℕ) (place n : ℕ) (ta
   }
     where
       answers : reply ≡ answer (fixedSet h source place n)
-      answers = known .fixable .asked ∙ ap (λ (b : Bool). cond b (answer (fixedSet h source place n)) (refused 12)) (known .passes)
+      answers = known .fixable .asked ∙ ap (λ (b : Bool). cond b (answer (fixedSet h source place n)) (refused (no 12))) (known .passes)
 
       heads : headAfter s h w ≡ (fixedSet h source place n) .0
       heads = λ j. record {

@@ -1,5 +1,5 @@
 -- An answer is told by what it says: two cases of an answer enum that say the same are the same. So a contract that fixes what is said
--- fixes the answer. First refusals, by their numbers, then each answer enum.
+-- fixes the answer. First refusals, by what they say, then each answer enum.
 use mathlib.Core.Bool.{Bool, false, true}
 use mathlib.Core.List.{[], _∷_}
 use mathlib.Core.Path.{_∙_, _≡_, ap, refl, sym}
@@ -22,25 +22,26 @@ use Rattle.paper.specs.declared.Fixed.{Fixed}
 use Rattle.paper.specs.declared.Member.{Member}
 use Rattle.paper.specs.declared.Projected.{Projected}
 use Rattle.paper.specs.declared.Written.{Written}
-use Rattle.paper.specs.Answers.{numberOf, saysBuilt, saysConverted, saysCounted, saysFixed, saysMember, saysProjected, saysWritten}
-use Rattle.paper.specs.Refusals.{Reply, answer, refused}
+use Rattle.paper.specs.Answers.{noOf, saysBuilt, saysConverted, saysCounted, saysFixed, saysMember, saysProjected, saysWritten}
+use Rattle.paper.specs.Refusals.{No, Reply, answer, no, noAt, refused}
 
 -- what is said, read back, is the answer: so two answers that say the same are one
 pub told-apart : {A S : Type 0} (says : A → S) (back : S → A) → ((a : A) → back (says a) ≡ a) → (a b : A) → says a ≡ says b → a ≡ b
 told-apart says back reads a b e = sym (reads a) ∙ ap back e ∙ reads b
 
 -- ---- refusals
--- the refusal of a number
-abbrev pub refusalOf : ℕ → Refusal
-refusalOf n =
-    getD (Tree ∷ ManyNodes ∷ Query ∷ Twice ∷ ShortWork ∷ ShortTable ∷ Place ∷ Node ∷ RowNumber ∷ ShortOutput ∷ NotSound ∷ UnitTwice
-    ∷ RowLength ∷ LongInput ∷ Text ∷ []) (n - 1) Tree
+-- the refusal that says this: 1 to 4 with a position, the others from 5 on alone
+abbrev pub refusalOf : No → Refusal
+refusalOf (noAt n p) = getD (Tree p ∷ ManyNodes p ∷ Query p ∷ Twice p ∷ []) (n - 1) (Tree p)
+refusalOf (no n) =
+    getD (ShortWork ∷ ShortTable ∷ Place ∷ Node ∷ RowNumber ∷ ShortOutput ∷ NotSound ∷ UnitTwice ∷ RowLength ∷ LongInput ∷ Text ∷ []) (n - 5)
+    ShortWork
 
-pub refusal-told : (r : Refusal) → refusalOf (numberOf r) ≡ r
-refusal-told Tree = refl
-refusal-told ManyNodes = refl
-refusal-told Query = refl
-refusal-told Twice = refl
+pub refusal-told : (r : Refusal) → refusalOf (noOf r) ≡ r
+refusal-told (Tree p) = refl
+refusal-told (ManyNodes p) = refl
+refusal-told (Query p) = refl
+refusal-told (Twice p) = refl
 refusal-told ShortWork = refl
 refusal-told ShortTable = refl
 refusal-told Place = refl

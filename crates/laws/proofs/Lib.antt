@@ -37,6 +37,7 @@ pub mod StreamPlaces
 pub mod TreeFaults
 pub mod QueryFaults
 pub mod StreamRefusals
+pub mod TreeRefusals
 pub mod QuestionRefusals
 pub mod FixGood
 pub mod Listed

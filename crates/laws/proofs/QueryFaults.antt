@@ -13,7 +13,7 @@ use lib.ListN.{length, getD, drop}
 use Rattle.paper.specs.Lists.{_∈_, has, same, allBelow}
 use Rattle.paper.specs.Stream.{bodyLength, StreamRecord, number, isTreeKind}
 use Rattle.paper.specs.Query.{side, isRuleKind, ruleOf, rulesOf, acceptingOf, queryOf}
-use Rattle.paper.specs.Refusals.{Test, treeEndTests, headTests, inRange, hasSide, isNew, laterTests, queryEndTests}
+use Rattle.paper.specs.Refusals.{StreamTest, treeEndTests, headTests, inRange, hasSide, isNew, laterTests, queryEndTests}
 use Rattle.laws.specs.StreamCauses.{written, ofKind, RuleKind, AllTree, TreeEnds, InQuery, FaultAt, recordOrder}
 use Rattle.laws.specs.StreamCauses.{QueryFault, no-head-first, second-head, unknown-kind, cut-record, head-out-of-range}
 use Rattle.laws.specs.StreamCauses.{leaf-rule-out-of-range, branch-rule-out-of-range, state-out-of-range, many-rules}
@@ -61,7 +61,7 @@ no-head-fault arity states rest f (branch-rule-out-of-range head later a b p q t
 no-head-fault arity states rest f (state-out-of-range head later q more e z h) = nil≢cons e
 no-head-fault arity states rest f (many-rules k more e r h) = omega arith
 
-abbrev headRanges : StreamRecord → List Test
+abbrev headRanges : StreamRecord → List StreamTest
 headRanges r = (3, leb 1 (number r 0) && leb (number r 0) 4) ∷ (3, leb 1 (number r 1) && leb (number r 1) 16) ∷ []
 
 module _ (before : List StreamRecord) (all : AllTree before) (counted : Counted before) where
@@ -379,7 +379,7 @@ module _ (head : StreamRecord) (later : List StreamRecord) (head-kind : head .ki
     in-later {bytes = bytes} f = in-query-cause before tree (head ∷ later) bytes parts all (ends-before-head bytes) f
 
     -- causes 2 and 1 are the tree's
-    after-tree : {bytes : List ℕ} {ts : List Test} → Judged (FaultAt before bytes) ts (3 ∷ 4 ∷ []) → Judged (FaultAt before bytes) ts recordOrder
+    after-tree : {bytes : List ℕ} {ts : List StreamTest} → Judged (FaultAt before bytes) ts (3 ∷ 4 ∷ []) → Judged (FaultAt before bytes) ts recordOrder
     after-tree j = judged-skip (λ f. not-all-tree (cause-two f .0)) (judged-skip (λ f. not-all-tree (cause-one f .0)) j)
 
     -- the input ends after records of the query
@@ -389,7 +389,7 @@ module _ (head : StreamRecord) (later : List StreamRecord) (head-kind : head .ki
         (λ e. judged-skip (λ f. no-fault-left (in-later (cause-three f))) (judged-skip (λ f. none-twice-left (in-later (cause-four f))) judged-none)))
 
     -- the tests after the kind and the body's length
-    abbrev laterRanges : StreamRecord → List Test
+    abbrev laterRanges : StreamRecord → List StreamTest
     laterRanges r =
         (3, inRange (queryOf (head ∷ later)) r)
         ∷ (3, not (isRuleKind (r .kind)) || ltb (length (rulesOf later)) 1024)

@@ -11,10 +11,10 @@ use lib.Dec.{eqb, leb, ltb}
 use lib.ListN.{getD, length}
 use Rattle.paper.specs.Questions.{countOf, fixedSet, hasPlace, imagesOf, isListed, isUnit, marksOf, questionWork, rowNumbered, unitTwice}
 use Rattle.paper.specs.Records.{blankEntry, listing, usedOf}
-use Rattle.paper.specs.Refusals.{answer, askTests, count, entriesFit, fix, fixTests, isOpen, member, memberTests, project, projectTests, refused, rowByNumber, rowTests}
+use Rattle.paper.specs.Refusals.{answer, askTests, count, entriesFit, fix, fixTests, isOpen, member, memberTests, No, project, projectTests, refused, rowByNumber, rowTests}
 use Rattle.paper.specs.Row.{Row, blank}
 use Rattle.paper.specs.Sound.{sound}
-use Rattle.laws.specs.First.{FirstOf, NoneOf}
+use Rattle.laws.specs.First.{Alone, FirstOf, NoneOf}
 use Rattle.laws.specs.Plain.{Head, Record, Set, at, empty, unit}
 use Rattle.laws.specs.QuestionCauses.{CountCause, FixCause, MemberCause, NotOpen, NumberCause, ProjectCause, Sound, UnitTwice, WrongEntry, questionOrder}
 use Rattle.laws.proofs.Replies.{Fits, refused-first}
@@ -117,8 +117,8 @@ module _ (h : Head) (table : List Record) (workLength : ℕ) where
   pub count-fits : Fits (CountCause h table workLength) (askTests h table workLength) questionOrder
   count-fits = fits questionOrder ask-causes refl refl
 
-  pub count-refused : (n : ℕ) → (count h table workLength ≡ refused n) ↔ FirstOf questionOrder (CountCause h table workLength) n
-  count-refused n = refused-first (countOf h table) n count-fits
+  pub count-refused : (w : No) → (count h table workLength ≡ refused w) ↔ Alone (FirstOf questionOrder (CountCause h table workLength)) w
+  count-refused = refused-first (countOf h table) count-fits
 
   pub count-answers : (count h table workLength ≡ answer (countOf h table)) ↔ NoneOf questionOrder (CountCause h table workLength)
   count-answers = answers-none (countOf h table) count-fits
@@ -131,9 +131,9 @@ module _ (h : Head) (table : List Record) (workLength : ℕ) where
         (more-causes ask-causes (more-causes (one-cause 9 (fails-below k (countOf h table))) (one-cause 10 (fails-at-most (h .arity) outLength))))
         refl refl
 
-    pub rowByNumber-refused : (n : ℕ)
-        → (rowByNumber h table workLength k outLength ≡ refused n) ↔ FirstOf questionOrder (NumberCause h table workLength k outLength) n
-    rowByNumber-refused n = refused-first (rowNumbered h table k) n rowByNumber-fits
+    pub rowByNumber-refused : (w : No)
+        → (rowByNumber h table workLength k outLength ≡ refused w) ↔ Alone (FirstOf questionOrder (NumberCause h table workLength k outLength)) w
+    rowByNumber-refused = refused-first (rowNumbered h table k) rowByNumber-fits
 
     pub rowByNumber-answers :
         (rowByNumber h table workLength k outLength ≡ answer (rowNumbered h table k))
@@ -148,8 +148,8 @@ module _ (h : Head) (table : List Record) (workLength : ℕ) where
         (more-causes ask-causes (more-causes (one-cause 13 (fails-equal (length row) (h .arity))) (one-cause 8 (entries-cause h row))))
         refl refl
 
-    pub member-refused : (n : ℕ) → (member h table workLength row ≡ refused n) ↔ FirstOf questionOrder (MemberCause h table workLength row) n
-    member-refused n = refused-first (isListed (listing h table) row) n member-fits
+    pub member-refused : (w : No) → (member h table workLength row ≡ refused w) ↔ Alone (FirstOf questionOrder (MemberCause h table workLength row)) w
+    member-refused = refused-first (isListed (listing h table) row) member-fits
 
     pub member-answers :
         (member h table workLength row ≡ answer (isListed (listing h table) row)) ↔ NoneOf questionOrder (MemberCause h table workLength row)
@@ -163,9 +163,9 @@ module _ (h : Head) (table : List Record) (workLength : ℕ) where
         (more-causes ask-causes (more-causes (one-cause 7 (place-cause h place)) (one-cause 10 (fails-at-most (h .nodes) outLength))))
         refl refl
 
-    pub project-refused : (n : ℕ)
-        → (project h table workLength place outLength ≡ refused n) ↔ FirstOf questionOrder (ProjectCause h table workLength place outLength) n
-    project-refused n = refused-first (marksOf h table place) n project-fits
+    pub project-refused : (w : No)
+        → (project h table workLength place outLength ≡ refused w) ↔ Alone (FirstOf questionOrder (ProjectCause h table workLength place outLength)) w
+    project-refused = refused-first (marksOf h table place) project-fits
 
     pub project-answers :
         (project h table workLength place outLength ≡ answer (marksOf h table place))
@@ -183,9 +183,9 @@ module _ (h : Head) (table : List Record) (workLength : ℕ) where
         (more-causes (one-cause 6 (fails-at-most (h .used) targetLength)) (one-cause 12 (unit-twice-cause h table place node))))))
         refl refl
 
-    pub fix-refused : (n : ℕ)
-        → (fix h table workLength place node targetLength ≡ refused n) ↔ FirstOf questionOrder (FixCause h table workLength place node targetLength) n
-    fix-refused n = refused-first (fixedSet h table place node) n fix-fits
+    pub fix-refused : (w : No)
+        → (fix h table workLength place node targetLength ≡ refused w) ↔ Alone (FirstOf questionOrder (FixCause h table workLength place node targetLength)) w
+    fix-refused = refused-first (fixedSet h table place node) fix-fits
 
     pub fix-answers :
         (fix h table workLength place node targetLength ≡ answer (fixedSet h table place node))

@@ -11,12 +11,12 @@ use lib.Dec.{eqb, leb, ltb}
 use lib.ListN.{drop, length, length-append}
 use Rattle.paper.specs.Lists.{Once, _∈_, allBelow, has, same}
 use Rattle.paper.specs.Query.{Query, Rule, acceptingOf, branchRule, isRuleKind, leafRule, queryOf, ruleOf, rulesOf, side}
-use Rattle.paper.specs.Refusals.{atEach, hasSide, headTests, laterTests, queryEndTests, queryPart, queryTests}
+use Rattle.paper.specs.Refusals.{hasSide, headTests, laterTests, queryEndTests, queryPart, queryTests}
 use Rattle.paper.specs.Stream.{StreamRecord, number}
 use Rattle.laws.specs.Numbered.{Deterministic, InRange, ruleFlag}
-use Rattle.laws.proofs.AtEach.{at-each}
+use Rattle.laws.proofs.AtEach.{at-each, part-each, part-end}
 use Rattle.laws.proofs.Lists.{both-true, once-snoc, only, same-refl, true-has}
-use Rattle.laws.proofs.Replies.{Passes, passes-left, passes-right}
+use Rattle.laws.proofs.Replies.{Passes}
 
 -- what a query that is read has
 pub record ReadQuery (Q : Query) : Type 0 where
@@ -202,7 +202,7 @@ end-read [] h p = absurd (false≢true (p .0))
 end-read (x ∷ xs) h p = h
 
 -- a query part whose tests pass gives a query in range, in which no rule and no state is said twice
-pub query-read : (records : List StreamRecord) → Passes (queryPart records) → ReadQuery (queryOf records)
-query-read records p =
-    end-read records (at-each queryTests ReadSoFar read-next [] records tt (passes-left (atEach queryTests [] records) (queryEndTests records) p))
-    (passes-right (atEach queryTests [] records) (queryEndTests records) p)
+pub query-read : (from : ℕ) (records : List StreamRecord) → Passes (queryPart from records) → ReadQuery (queryOf records)
+query-read from records p =
+    end-read records (at-each queryTests from ReadSoFar read-next [] records tt (part-each queryTests queryEndTests from records p))
+    (part-end queryTests queryEndTests from records p)

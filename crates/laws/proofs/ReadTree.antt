@@ -14,9 +14,9 @@ use Rattle.paper.specs.Stream.{StreamRecord, number}
 use Rattle.paper.specs.Tree.{Tree, grow, join, lastOf, leaf, treeOf, unjoined}
 use Rattle.laws.specs.Numbered.{Numbered, branch-numbered, leaf-numbered}
 use Rattle.laws.specs.Plain.{at}
-use Rattle.laws.proofs.AtEach.{at-each}
+use Rattle.laws.proofs.AtEach.{at-each, part-each, part-end}
 use Rattle.laws.proofs.Lists.{through-append}
-use Rattle.laws.proofs.Replies.{Passes, passes-left, passes-right}
+use Rattle.laws.proofs.Replies.{Passes}
 use Rattle.laws.proofs.Runs.{numbered-below}
 
 -- ---- the unjoined subtrees
@@ -66,8 +66,8 @@ read-next before r h p = record {
   few = omega (arith, length-append before (r ∷ []), ltb-true (length before) 4095 (p .0));
 }
 
-read-all : (records : List StreamRecord) → Passes (atEach treeTests [] records) → ReadSoFar records
-read-all records p = at-each treeTests ReadSoFar read-next [] records (record { stacked = bottom; few = omega arith }) p
+read-all : (records : List StreamRecord) → Passes (atEach treeTests 0 [] records) → ReadSoFar records
+read-all records p = at-each treeTests 0 ReadSoFar read-next [] records (record { stacked = bottom; few = omega arith }) p
 
 -- a tree part whose tests pass is one tree, its nodes numbered from 0
 pub tree-read : (records : List StreamRecord) → Passes (treePart records)
@@ -75,10 +75,10 @@ pub tree-read : (records : List StreamRecord) → Passes (treePart records)
 tree-read records p = (numbered, numbered-below numbered, so-far .few)
   where
     so-far : ReadSoFar records
-    so-far = read-all records (passes-left (atEach treeTests [] records) (treeEndTests records) p)
+    so-far = read-all records (part-each treeTests treeEndTests 0 records p)
 
     one : length (unjoined records) ≡ 1
-    one = eqb-true (length (unjoined records)) 1 (passes-right (atEach treeTests [] records) (treeEndTests records) p .1 .0)
+    one = eqb-true (length (unjoined records)) 1 (part-end treeTests treeEndTests 0 records p .1 .0)
 
     all-nodes : (through grow ([], 0) records) .1 ≡ length records
     all-nodes = omega (arith, next-node ([], 0) records)

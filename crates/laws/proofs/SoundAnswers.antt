@@ -14,7 +14,7 @@ use lib.Seq.{length-take-le}
 use Rattle.paper.specs.Lists.{_∈_}
 use Rattle.paper.specs.Questions.{countOf, hasPlace, isListed, marksOf, questionWork, rowNumbered, standsAt}
 use Rattle.paper.specs.Records.{listing, listings, setRows, usedOf}
-use Rattle.paper.specs.Refusals.{Test, answer, askTests, entriesFit, isOpen, member, memberTests, projectTests, rowTests}
+use Rattle.paper.specs.Refusals.{Test, answer, askTests, entriesFit, isOpen, member, memberTests, no, projectTests, rowTests}
 use Rattle.paper.specs.Row.{Row, blank}
 use Rattle.laws.specs.Plain.{Head, Record, Set, at, empty, unit}
 use Rattle.laws.specs.QuestionCauses.{SetFits, Sound, WrongEntry}
@@ -87,7 +87,7 @@ module _ (h : Head) (table : List Record) (S : Sound h table) where
       → member h table workLength row ≡ answer (isListed (listing h table) row)
   looks workLength row work long right =
       answers (memberTests h table workLength row) (isListed (listing h table) row)
-      (asks workLength ((13, eqb (length row) (h .arity)) ∷ (8, entriesFit h 0 row) ∷ []) work
+      (asks workLength ((no 13, eqb (length row) (h .arity)) ∷ (no 8, entriesFit h 0 row) ∷ []) work
       (eq-eqb (length row) (h .arity) long, (passes-if-not (entries-cause h row) right, tt)))
 
   -- ---- what it says
@@ -122,12 +122,12 @@ module _ (h : Head) (table : List Record) (S : Sound h table) where
     counts = λ w work. answers (askTests h table w) (countOf h table) (asks w [] work tt);
     numbers = λ w k out work below fits.
         answers (rowTests h table w k out) (rowNumbered h table k)
-        (asks w ((9, ltb k (countOf h table)) ∷ (10, leb (h .arity) out) ∷ []) work
+        (asks w ((no 9, ltb k (countOf h table)) ∷ (no 10, leb (h .arity) out) ∷ []) work
         (lt-ltb k (countOf h table) below, (le-leb (h .arity) out fits, tt)));
     members = member-says;
     others = λ w work row long right none. looks w row work long right ∙ ap answer (not-listed row none);
     projects = λ w place out work is-open fits.
         answers (projectTests h table w place out) (marksOf h table place)
-        (asks w ((7, isOpen h place) ∷ (10, leb (h .nodes) out) ∷ []) work (is-open, (le-leb (h .nodes) out fits, tt)));
+        (asks w ((no 7, isOpen h place) ∷ (no 10, leb (h .nodes) out) ∷ []) work (is-open, (le-leb (h .nodes) out fits, tt)));
     marks = marks-say;
   }

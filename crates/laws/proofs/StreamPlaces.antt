@@ -9,10 +9,10 @@ use Prim.Native.Nat.{_+_, _<_, _≤_, suc, zero, ℕ}
 use native.Mathlib.Omega.{arith}
 use borrow.Author.Tests.{eqb-false, eqb-true, leb-true}
 use lib.Dec.{eqb, leb}
-use lib.ListN.{drop, drop-of-length-le, getD, length, length-drop, length-take, take, take-append-drop}
+use lib.ListN.{drop, drop-of-length-le, getD, length, length-append, length-drop, length-take, take, take-append-drop}
 use lib.Seq.{drop-at, drop-cons, length-take-le, take-at}
 use Rattle.paper.specs.Lists.{through}
-use Rattle.paper.specs.Stream.{StreamRecord, bodyLength, isTreeKind, queryRecords, recordsOf, recordsWithin, treeRecords, whole}
+use Rattle.paper.specs.Stream.{StreamRecord, bodyLength, behind, isTreeKind, queryRecords, recordsOf, recordsWithin, treeRecords, whole}
 use Rattle.paper.specs.Tree.{Tree, grow, join, unjoined}
 use Rattle.laws.specs.Plain.{at}
 use Rattle.laws.specs.StreamCauses.{AllTree, Begins, TreeEnds, TreeKind, ofKind, written}
@@ -116,6 +116,16 @@ place-after {k} {bytes} {later} {rest} h b = record {
   split = written-first k bytes later rest (b .split);
   whole = λ r m. ⊎-elim (λ e. rw e (first-whole k bytes h)) (b .whole r) (List·Memᴰ·cases-cons m);
 }
+
+-- a place stands behind the bytes of the records before it
+pub behind-written : (from : ℕ) (records : List StreamRecord) → behind from records ≡ from + length (written records)
+behind-written from [] = omega arith
+behind-written from (r ∷ rs) =
+    omega (arith, behind-written (from + suc (length (r .body))) rs, length-append (r .body) (written rs))
+
+pub behind-append : (from : ℕ) (xs ys : List StreamRecord) → behind from (xs ++ ys) ≡ behind (behind from xs) ys
+behind-append from [] ys = refl
+behind-append from (x ∷ xs) ys = behind-append (from + suc (length (x .body))) xs ys
 
 -- the later of two places in one input
 pub record Further (before : List StreamRecord) (bytes : List ℕ) (before′ : List StreamRecord) (bytes′ : List ℕ) : Type 0 where

@@ -7,7 +7,7 @@ use Prim.Native.Nat.{ℕ}
 use borrow.Author.Tests.{eqb-true, not-true}
 use lib.Dec.{eqb}
 use Rattle.paper.specs.Lists.{Once, _∈_, has}
-use Rattle.paper.specs.Refusals.{Test, answer, unless}
+use Rattle.paper.specs.Refusals.{No, Test, answer, no, noAt, numberIn, unless}
 use Rattle.laws.specs.First.{NoneOf}
 use Rattle.laws.specs.Plain.{at}
 use Rattle.laws.proofs.Lists.{both-true, here, only, true-has, which}
@@ -16,12 +16,12 @@ use Rattle.laws.proofs.Tests.{Fails}
 
 -- the cause of each number applies exactly where a test with that number fails
 abbrev pub Tested : (ℕ → Type 0) → List Test → Type 0
-Tested Applies ts = (n : ℕ) → Applies n ↔ ((n, false) ∈ ts)
+Tested Applies ts = (n : ℕ) → Applies n ↔ ((no n, false) ∈ ts)
 
-pub one-cause : (m : ℕ) {c : Bool} {P : Type 0} → Fails c P → Tested (λ n. (n ≡ m) × P) ((m, c) ∷ [])
+pub one-cause : (m : ℕ) {c : Bool} {P : Type 0} → Fails c P → Tested (λ n. (n ≡ m) × P) ((no m, c) ∷ [])
 one-cause m f n = (
-  λ (e, p). let g = sym (f .1 p) in List·Memᴰ·head (λ i. (e i, g i)),
-  λ w. let e = only w in (ap (λ t. t .0) e, f .0 (sym (ap (λ t. t .1) e))),
+  λ (e, p). let g = sym (f .1 p) in List·Memᴰ·head (λ i. (no (e i), g i)),
+  λ w. let e = only w in (ap (λ t. numberIn (t .0)) e, f .0 (sym (ap (λ t. t .1) e))),
 )
 
 pub more-causes : {A B : ℕ → Type 0} {ts us : List Test} → Tested A ts → Tested B us → Tested (λ n. A n ⊎ B n) (ts ++ us)
@@ -30,29 +30,38 @@ more-causes {ts = ts} {us = us} f g n = (
   λ w. ⊎-elim (λ a. inl (f n .1 a)) (λ b. inr (g n .1 b)) (List·Memᴰ·append-cases ts w),
 )
 
+-- what is said is this number alone
+abbrev isNumber : No → ℕ → Bool
+isNumber (no n) m = eqb n m
+isNumber (noAt n p) m = false
+
+is-number : (w : No) (m : ℕ) → isNumber w m ≡ true → w ≡ no m
+is-number (no n) m e = ap no (eqb-true n m e)
+is-number (noAt n p) m e = absurd (false≢true e)
+
 -- the numbers of the tests stand in the list, in this order
 abbrev pub inOrder : List Test → List ℕ → Bool
 inOrder [] ms = true
 inOrder (t ∷ ts) [] = false
-inOrder (t ∷ ts) (m ∷ ms) = cond (eqb (t .0) m) (inOrder ts ms) (inOrder (t ∷ ts) ms)
+inOrder (t ∷ ts) (m ∷ ms) = cond (isNumber (t .0) m) (inOrder ts ms) (inOrder (t ∷ ts) ms)
 
 in-order-cases : (t : Test) (ts : List Test) (m : ℕ) (ms : List ℕ) → inOrder (t ∷ ts) (m ∷ ms) ≡ true
-    → ((t .0 ≡ m) × (inOrder ts ms ≡ true)) ⊎ (inOrder (t ∷ ts) ms ≡ true)
-in-order-cases t ts m ms e = ⊎-elim (λ w. inl (eqb-true (t .0) m w, rw w at e)) (λ w. inr (rw w at e)) (which (eqb (t .0) m))
+    → ((t .0 ≡ no m) × (inOrder ts ms ≡ true)) ⊎ (inOrder (t ∷ ts) ms ≡ true)
+in-order-cases t ts m ms e = ⊎-elim (λ w. inl (is-number (t .0) m w, rw w at e)) (λ w. inr (rw w at e)) (which (isNumber (t .0) m))
 
 -- so each of them stands in it
-in-order-in : (ts : List Test) (ms : List ℕ) {n : ℕ} {c : Bool} → inOrder ts ms ≡ true → (n, c) ∈ ts → n ∈ ms
+in-order-in : (ts : List Test) (ms : List ℕ) {n : ℕ} {c : Bool} → inOrder ts ms ≡ true → (no n, c) ∈ ts → n ∈ ms
 in-order-in [] ms e w = absurd (List·Memᴰ·not-nil w)
 in-order-in (t ∷ ts) [] e w = absurd (false≢true e)
 in-order-in (t ∷ ts) (m ∷ ms) e w =
     ⊎-elim
-    (λ (q, f). ⊎-elim (λ p. List·Memᴰ·head (ap (λ s. s .0) p ∙ q)) (λ v. List·Memᴰ·tail (in-order-in ts ms f v)) (List·Memᴰ·cases-cons w))
+    (λ (q, f). ⊎-elim (λ p. List·Memᴰ·head (ap numberIn (ap (λ s. s .0) p ∙ q))) (λ v. List·Memᴰ·tail (in-order-in ts ms f v)) (List·Memᴰ·cases-cons w))
     (λ f. List·Memᴰ·tail (in-order-in (t ∷ ts) ms f w))
     (in-order-cases t ts m ms e)
 
 -- the causes of the list's numbers, tested in its order, fit it
 in-order-fits : {Applies : ℕ → Type 0} (ts : List Test) (ms : List ℕ) → Once ms → inOrder ts ms ≡ true
-    → ((n : ℕ) → n ∈ ms → Applies n ↔ ((n, false) ∈ ts)) → Fits Applies ts ms
+    → ((n : ℕ) → n ∈ ms → Applies n ↔ ((no n, false) ∈ ts)) → Fits Applies ts ms
 in-order-fits [] [] o e r = ends
 in-order-fits [] (m ∷ ms) o e r =
     skips (λ a. List·Memᴰ·not-nil (r m here .0 a)) (in-order-fits [] ms (o .1) e (λ n i. r n (List·Memᴰ·tail i)))
@@ -64,13 +73,13 @@ in-order-fits {Applies} (t ∷ ts) (m ∷ ms) o e r =
     (in-order-cases t ts m ms e)
   where
     -- a later number is not that of the first test
-    later : t .0 ≡ m → (n : ℕ) → n ∈ ms → ((n, false) ∈ t ∷ ts) ↔ ((n, false) ∈ ts)
+    later : t .0 ≡ no m → (n : ℕ) → n ∈ ms → ((no n, false) ∈ t ∷ ts) ↔ ((no n, false) ∈ ts)
     later q n i = (
-      λ w. ⊎-elim (λ p. absurd (o .0 (Memᴰ·cast (sym q ∙ sym (ap (λ s. s .0) p)) i))) (λ v. v) (List·Memᴰ·cases-cons w),
+      λ w. ⊎-elim (λ p. absurd (o .0 (Memᴰ·cast (ap numberIn (sym q ∙ sym (ap (λ s. s .0) p))) i))) (λ v. v) (List·Memᴰ·cases-cons w),
       List·Memᴰ·tail,
     )
 
-    first : t .0 ≡ m → inOrder ts ms ≡ true → Fits Applies ts ms → Fits Applies (t ∷ ts) (m ∷ ms)
+    first : t .0 ≡ no m → inOrder ts ms ≡ true → Fits Applies ts ms → Fits Applies (t ∷ ts) (m ∷ ms)
     first q f rest =
         subst (λ k. Fits Applies ((k, t .1) ∷ ts) (m ∷ ms)) (sym q)
         (tests

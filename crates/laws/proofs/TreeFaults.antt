@@ -11,7 +11,7 @@ use lib.ListN.{length}
 use Rattle.paper.specs.Lists.{isNil}
 use Rattle.paper.specs.Stream.{bodyLength, StreamRecord, number}
 use Rattle.paper.specs.Tree.{unjoined}
-use Rattle.paper.specs.Refusals.{Test, treeTests, treeEndTests}
+use Rattle.paper.specs.Refusals.{StreamTest, treeTests, treeEndTests}
 use Rattle.laws.specs.StreamCauses.{written, ofKind, TreeKind, AllTree, TreeEnds, QueryFault, SaidTwice, InQuery, FaultAt, recordOrder}
 use Rattle.laws.specs.StreamCauses.{ManyNodes, kind-met, TreeFault, cut-in-record, label-over, few-unjoined, no-node, not-one-subtree}
 use Rattle.laws.proofs.Lists.{here}
@@ -120,7 +120,7 @@ module _ (before : List StreamRecord) (bytes : List ℕ) (all : AllTree before) 
   not-one e h = eqb-false (length (unjoined before)) 1 e (omega (arith, counted))
 
   -- causes 2 and 1 where the tree ends; 3 and 4 are for the query to judge
-  pub end-judged : {ts : List Test} → Judged (FaultAt before bytes) ts (3 ∷ 4 ∷ [])
+  pub end-judged : {ts : List StreamTest} → Judged (FaultAt before bytes) ts (3 ∷ 4 ∷ [])
       → Judged (FaultAt before bytes) (treeEndTests before ++ ts) recordOrder
   end-judged j =
       judged-skip (λ f. met-no-tree-kind (cause-two f .1))

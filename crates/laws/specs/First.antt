@@ -4,11 +4,17 @@ use mathlib.Core.Path.{_≡_}
 use mathlib.Core.Logic.{_⊎_}
 use mathlib.Core.List.{List, [], _∷_}
 use Prim.Native.Nat.{ℕ}
+use Rattle.paper.specs.Refusals.{No, no, noAt}
 
 -- n is the first number of the list whose cause applies
 abbrev pub FirstOf : List ℕ → (ℕ → Type 0) → ℕ → Type 0
 FirstOf [] Applies n = ⊥
 FirstOf (m ∷ ms) Applies n = (Applies m × (n ≡ m)) ⊎ ((Applies m → ⊥) × FirstOf ms Applies n)
+
+-- what says no is a number alone, and that number is as stated
+abbrev pub Alone : (ℕ → Type 0) → No → Type 0
+Alone Stated (no n) = Stated n
+Alone Stated (noAt n position) = ⊥
 
 -- no cause of the list applies
 abbrev pub NoneOf : List ℕ → (ℕ → Type 0) → Type 0

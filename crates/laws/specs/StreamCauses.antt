@@ -9,7 +9,7 @@ use lib.Dec.{eqb}
 use lib.ListN.{length}
 use Rattle.paper.specs.Lists.{_∈_}
 use Rattle.paper.specs.Stream.{bodyLength, StreamRecord, number}
-use Rattle.paper.specs.Refusals.{workFor, madeFrom}
+use Rattle.paper.specs.Refusals.{No, no, noAt, workFor, madeFrom}
 use Rattle.laws.specs.First.{FirstOf, NoneOf}
 
 -- ---- places in the input
@@ -106,13 +106,20 @@ abbrev pub NoneEarlier : List StreamRecord → List ℕ → Type 0
 NoneEarlier before bytes =
     (earlier later : List StreamRecord) → before ≡ earlier ++ later → (later ≡ [] → ⊥) → NoneOf recordOrder (FaultAt earlier (written later ++ bytes))
 
--- the stream is refused with n: n is the first number whose cause applies to the first record at fault
-pub record StreamRefused (input : List ℕ) (n : ℕ) : Type 0 where
+-- the stream is refused with n at a position: there stands the first record at fault, or the tree or the input has ended there, and n is the
+-- first number whose cause applies to it
+pub record StreamRefused (input : List ℕ) (n position : ℕ) : Type 0 where
   pub before : List StreamRecord
   pub bytes : List ℕ
   pub place : Begins input before bytes
+  pub position-is : position ≡ length (written before)
   pub first : FirstOf recordOrder (FaultAt before bytes) n
   pub none-earlier : NoneEarlier before bytes
+
+-- a tree that is read alone is refused so: at a position, where the first record at fault is the tree's, or the tree has ended there
+abbrev pub TreeRefused : List ℕ → No → Type 0
+TreeRefused input (noAt n position) = StreamRefused input n position × (n ≤ 2)
+TreeRefused input (no n) = ⊥
 
 -- no record of the stream is at fault
 abbrev pub StreamFine : List ℕ → Type 0
@@ -126,3 +133,8 @@ abbrev pub BuildCause : List ℕ → ℕ → ℕ → ℕ → Type 0
 BuildCause input workLength tableLength n =
     ((n ≡ 5) × (workLength < workFor input))
     ⊎ ((n ≡ 6) × ((tableLength < length (madeFrom input)) ⊎ (60000 < length (madeFrom input))))
+
+-- a build is refused so: the stream at a position; or, where no record of it is at fault, with a number alone
+abbrev pub BuildRefused : List ℕ → ℕ → ℕ → No → Type 0
+BuildRefused input workLength tableLength (noAt n position) = StreamRefused input n position
+BuildRefused input workLength tableLength (no n) = StreamFine input × FirstOf buildOrder (BuildCause input workLength tableLength) n

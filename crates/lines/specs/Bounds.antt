@@ -12,3 +12,7 @@ longestWord = 8
 -- such a line, with its end
 abbrev pub longestFact : ℕ
 longestFact = longestWord + longestNumber + 1
+
+-- the line of a refusal: `refused `, a number, ` at `, a number, and its end
+abbrev pub longestRefusal : ℕ
+longestRefusal = longestWord + longestNumber + 4 + longestNumber + 1

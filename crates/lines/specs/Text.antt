@@ -1,9 +1,10 @@
--- A number in decimal digits, and a line of a word and a number.
+-- A number in decimal digits, a line of a word and a number, and the line of a refusal.
 use mathlib.Core.Bool.{cond}
 use mathlib.Core.List.{List, [], _∷_, _++_}
 use Prim.Native.Nat.{ℕ, zero, suc, _+_, _/_}
 use lib.Dec.{ltb}
 use Rattle.io.specs.Digits.{digits}
+use Rattle.paper.specs.Refusals.{No, no, noAt}
 
 -- how many digits a number has, at most one more than the first number says
 abbrev pub digitsOf : ℕ → ℕ → ℕ
@@ -21,3 +22,12 @@ factText word n = word ++ (numberText n ++ (10 ∷ []))
 -- `refused `, in ASCII
 abbrev pub refusedWord : List ℕ
 refusedWord = 114 ∷ 101 ∷ 102 ∷ 117 ∷ 115 ∷ 101 ∷ 100 ∷ 32 ∷ []
+
+-- ` at `
+abbrev pub atWord : List ℕ
+atWord = 32 ∷ 97 ∷ 116 ∷ 32 ∷ []
+
+-- the line of a refusal: `refused 14`, and with a position `refused 3 at 40`
+abbrev pub refusalText : No → List ℕ
+refusalText (no n) = factText refusedWord n
+refusalText (noAt n p) = refusedWord ++ (numberText n ++ factText atWord p)

@@ -3,9 +3,10 @@
 // so none asks for anything; who has the room knows that all stands there (proofs/Putting.antt).
 ghost use mathlib.Core.List.{[], _∷_};
 ghost use mathlib.Core.Path.{_≡_};
-ghost use Rattle.paper.specs.Answers.{numberOf};
-ghost use Rattle.lines.specs.Put.{put, putFact};
-ghost use Rattle.lines.specs.Text.{numberText, refusedWord};
+ghost use Rattle.paper.specs.Answers.{noOf};
+ghost use Rattle.lines.specs.Put.{put, putFact, putRefusal};
+ghost use Rattle.lines.specs.Text.{numberText};
+use paper::Position;
 use paper::Refusal;
 
 // The digits of a number below 2 to the power of 64, at most.
@@ -58,14 +59,19 @@ pub fn put_fact(text: &mut [u8], at: usize, word: &[u8], n: u64) -> usize
     put_byte(&mut *text, end, b'\n')
 }
 
-// The line of a refusal, from the start of the buffer: a program that refuses tells nothing else.
+// The line of a refusal, from the start of the buffer: a program that refuses tells nothing else. Its number, and the position if it has
+// one.
 pub fn put_refusal(text: &mut [u8], why: Refusal) -> usize
-    ensures { λ r. ⌜ putFact refusedWord (numberOf why) (0, now (text .entry)) ≡ (r, now (text .exit)) ⌝ }
+    ensures { λ r. ⌜ putRefusal (noOf why) (0, now (text .entry)) ≡ (r, now (text .exit)) ⌝ }
 {
-    put_fact(
+    let word = put_word(
         &mut *text,
         0,
         &[b'r', b'e', b'f', b'u', b's', b'e', b'd', b' '],
-        why.number() as u64,
-    )
+    );
+    let end = put_number(&mut *text, word, why.number() as u64);
+    match why.position() {
+        Position::At(at) => put_fact(&mut *text, end, &[b' ', b'a', b't', b' '], at as u64),
+        Position::None => put_byte(&mut *text, end, b'\n'),
+    }
 }

@@ -16,7 +16,7 @@ use Rattle.paper.specs.declared.Record.{Record}
 use Rattle.paper.specs.Answers.{saysBuilt, saysCounted, told}
 use Rattle.paper.specs.Questions.{countOf}
 use Rattle.paper.specs.Records.{listing, listings, setRows, usedOf}
-use Rattle.paper.specs.Refusals.{Reply, Test, answer, build, buildTests, headFrom, madeFrom, program, refused, unless}
+use Rattle.paper.specs.Refusals.{No, Reply, Test, answer, build, buildTests, headFrom, madeFrom, no, program, refused, unless}
 use Rattle.paper.specs.Row.{Row}
 use Rattle.laws.specs.Built.{BuiltSet}
 use Rattle.laws.proofs.BuiltSets.{built-good, built-is, built-right}
@@ -64,7 +64,7 @@ program-is : (input : List ℕ) → length input ≤ 16384 → program input ≡
 program-is input short = rw (le-leb (length input) 16384 short) (sym (told-unless tellsOf (buildTests input 16384 2000) (headFrom input, madeFrom input)))
 
 -- one that is, is refused before all
-pub too-long : (input : List ℕ) → 16384 < length input → program input ≡ refused 14
+pub too-long : (input : List ℕ) → 16384 < length input → program input ≡ refused (no 14)
 too-long input long = rw (lt-leb (length input) 16384 long)
 
 -- ---- the first lines
@@ -81,7 +81,7 @@ first-tells whole far t text none long few stands =
     }
 
 -- a refusal's is all there is
-pub refuses-lists : (input : List ℕ) (n : ℕ) → program input ≡ refused n → (t : Page) (text : List ℕ) → longestLine ≤ length text → Refuses n t text
+pub refuses-lists : (input : List ℕ) (n : No) → program input ≡ refused n → (t : Page) (text : List ℕ) → longestLine ≤ length text → Refuses n t text
     → Lists input t text
 refuses-lists input n e t text long R = record {
   tells = λ _. subst (λ (a : Reply (ℕ × List Row)). Tells (programText a) (programText a) t text) (sym e)
@@ -115,7 +115,7 @@ module _ (input work₀ : List ℕ) (table₀ : List Record) (short : length inp
   reply-is = sym (ap₂ (build input) cells entries)
 
   -- the build was refused
-  program-refused : (n : ℕ) → saysBuilt r ≡ refused n → program input ≡ refused n
+  program-refused : (n : No) → saysBuilt r ≡ refused n → program input ≡ refused n
   program-refused n said =
       program-is input short ∙ ap (told tellsOf) (reply-is ∙ go (build input (length work₀) (length table₀)) (sym (B .answer) ∙ said))
     where

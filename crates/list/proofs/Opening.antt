@@ -14,7 +14,7 @@ use Rattle.paper.specs.declared.Head.{Head}
 use Rattle.paper.specs.declared.Refusal.{Refusal}
 use Rattle.paper.specs.declared.Written.{Written}
 use Rattle.paper.specs.declared.Written.the-variants as WrittenIs
-use Rattle.paper.specs.Answers.{numberOf, saysBuilt, saysCounted, saysWritten}
+use Rattle.paper.specs.Answers.{noOf, saysBuilt, saysCounted, saysWritten}
 use Rattle.list.specs.Bounds.{longestLine}
 use Rattle.list.specs.declared.handed.Handed.{Handed}
 use Rattle.list.specs.declared.page.Page.{Page}
@@ -25,11 +25,11 @@ use Rattle.list.specs.Text.{lineText}
 use Rattle.list.proofs.Waiting.{room-failed, room-made}
 
 pub opens-refused : (b : Built) (n : Counted) (why : Refusal) (t : Page) (text : List ℕ) → b ≡ BuiltIs.Refused why
-    → Refuses (numberOf why) t text → Opens (saysBuilt b) (saysCounted n) t text
+    → Refuses (noOf why) t text → Opens (saysBuilt b) (saysCounted n) t text
 opens-refused b n why t text e r = rw e r
 
 pub opens-uncounted : (b : Built) (n : Counted) (h : Head) (why : Refusal) (t : Page) (text : List ℕ) → b ≡ BuiltIs.Set h
-    → n ≡ CountedIs.Refused why → Refuses (numberOf why) t text → Opens (saysBuilt b) (saysCounted n) t text
+    → n ≡ CountedIs.Refused why → Refuses (noOf why) t text → Opens (saysBuilt b) (saysCounted n) t text
 opens-uncounted b n h why t text e f r = rw (e, f) r
 
 pub opens-rows : (b : Built) (n : Counted) (h : Head) (rows bytes : ℕ) (handed : Handed) (text : List ℕ) → b ≡ BuiltIs.Set h

@@ -8,15 +8,15 @@ use lib.ListN.{length, take}
 use Rattle.list.specs.Bounds.{longestLine, longestOpening, largestText}
 use Rattle.list.specs.declared.page.Page.{Page}
 use Rattle.paper.specs.declared.Head.{Head}
-use Rattle.paper.specs.Refusals.{Reply, refused, answer}
+use Rattle.paper.specs.Refusals.{No, Reply, refused, answer}
 use Rattle.list.specs.Handing.{Next, nothingHanded, textOf}
 use Rattle.lines.specs.Put.{Puts}
-use Rattle.lines.specs.Text.{factText, refusedWord}
+use Rattle.lines.specs.Text.{factText, refusalText}
 use Rattle.list.specs.Text.{lineText, recordsWord, rowsWord}
 
 -- one line, and nothing is to follow
-pub record Refuses (n : ℕ) (t : Page) (text′ : List ℕ) : Type 0 where
-  pub stands : take (t .bytes) text′ ≡ factText refusedWord n
+pub record Refuses (w : No) (t : Page) (text′ : List ℕ) : Type 0 where
+  pub stands : take (t .bytes) text′ ≡ refusalText w
   pub bytes : t .bytes ≤ longestOpening
   pub unhanded : t .handed ≡ nothingHanded
   pub stops : t .going ≡ false
@@ -32,8 +32,8 @@ opened h rows bytes =
     record { number = 0; rows = rows; handed = nothingHanded; places = h .arity; bytes = bytes; going = ltb 0 rows }
 
 abbrev pub Opens : Reply Head → Reply ℕ → Page → List ℕ → Type 0
-Opens (refused n) counted t text′ = Refuses n t text′
-Opens (answer h) (refused n) t text′ = Refuses n t text′
+Opens (refused w) counted t text′ = Refuses w t text′
+Opens (answer h) (refused w) t text′ = Refuses w t text′
 Opens (answer h) (answer rows) t text′ = Facts (h .used) rows (t .bytes) text′ × (t ≡ opened h rows (t .bytes))
 
 -- ---- handing on

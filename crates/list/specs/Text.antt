@@ -1,8 +1,8 @@
--- What the program prints: a line for each row, and the whole text. A number and a line of a word and a number are `lines`'.
+-- What the program prints: a line for each row, and the whole text. A number and a line of a word and a number are `lines`', and so is the line of a refusal.
 use mathlib.Core.List.{List, [], _∷_, _++_}
 use Prim.Native.Nat.{ℕ, zero, suc}
 use lib.ListN.{length}
-use Rattle.lines.specs.Text.{numberText, factText, refusedWord}
+use Rattle.lines.specs.Text.{numberText, factText, refusalText}
 use Rattle.paper.specs.Row.{Row}
 use Rattle.paper.specs.Refusals.{Reply, refused, answer}
 
@@ -33,7 +33,7 @@ recordsWord = 114 ∷ 101 ∷ 99 ∷ 111 ∷ 114 ∷ 100 ∷ 115 ∷ 32 ∷ []
 abbrev pub rowsWord : List ℕ
 rowsWord = 114 ∷ 111 ∷ 119 ∷ 115 ∷ 32 ∷ []
 
--- the whole text, of what the paper's `program` says: the records made, the count, a line a row; or one line with the number
+-- the whole text, of what the paper's `program` says: the records made, the count, a line a row; or the one line of the refusal
 abbrev pub programText : Reply (ℕ × List Row) → List ℕ
-programText (refused n) = factText refusedWord n
+programText (refused w) = refusalText w
 programText (answer a) = factText recordsWord (a .0) ++ (factText rowsWord (length (a .1)) ++ linesText (a .1))

@@ -3,7 +3,7 @@
 ghost use mathlib.Core.Path.{_≡_};
 ghost use Prim.Native.Nat.{_≤_};
 ghost use lib.ListN.{length};
-ghost use Rattle.paper.specs.Answers.{numberOf, saysBuilt, saysCounted, saysWritten};
+ghost use Rattle.paper.specs.Answers.{noOf, saysBuilt, saysCounted, saysWritten};
 ghost use Rattle.list.specs.Bounds.{longestOpening, largestText};
 ghost use Rattle.list.specs.Page.{Facts, Refuses, Opens, Waits, passedOn, MakesRoom, LineReady, Lines};
 use crate::handed::Handed;
@@ -37,10 +37,10 @@ pub(crate) struct Page {
     pub(crate) going: bool,
 }
 
-// One line with the number that says no, and no more. The text is empty then, and has room for two such lines.
+// The line of the refusal, and no more. The text is empty then, and has room for it: it is shorter than the two lines before the rows can be.
 pub(crate) fn refuse(why: Refusal, text: &mut [u8]) -> Page
     requires { ⌜ (longestOpening ≤ length (now text)) × (length (now text) ≤ largestText) ⌝ }
-    ensures { λ r. ⌜ Refuses (numberOf why) r (now (text .exit)) ⌝ }
+    ensures { λ r. ⌜ Refuses (noOf why) r (now (text .exit)) ⌝ }
 {
     let bytes = put_refusal(&mut *text, why);
     Page {

@@ -21,7 +21,7 @@ use Rattle.paper.specs.Answers.{saysMember}
 use Rattle.paper.specs.Lists.{same}
 use Rattle.paper.specs.Questions.{isListed}
 use Rattle.paper.specs.Records.{listing, listings, setRows, usedOf}
-use Rattle.paper.specs.Refusals.{Reply, Test, answer, entriesFit, member, refused, unless, workAfter}
+use Rattle.paper.specs.Refusals.{Reply, Test, answer, entriesFit, member, refused, unless, workAfter, no}
 use Rattle.paper.specs.Row.{Row, blank}
 use Rattle.paper.specs.Sound.{sound}
 use Rattle.laws.specs.QuestionCauses.{SetFits, Sound}
@@ -48,7 +48,7 @@ drop-cleared n work =
 module _ (h : Head) (table : List Record) (work : List ℕ) (row : Row) where
   -- the tests of the row, behind those of every question
   abbrev rowTests : List Test
-  rowTests = (13, eqb (length row) (h .arity)) ∷ (8, entriesFit h 0 row) ∷ []
+  rowTests = (no 13, eqb (length row) (h .arity)) ∷ (no 8, entriesFit h 0 row) ∷ []
 
   abbrev listed : Bool
   listed = isListed (listing h table) row
@@ -116,7 +116,7 @@ module _ (h : Head) (table : List Record) (work : List ℕ) (row : Row) where
 
       tested : (c : Bool) → eqb (length row) (h .arity) ≡ c → (d : Bool) → entriesFit h 0 row ≡ d
           → Answers (cond c (cond d (firstOf (h .set) row) (stopped (Refused Node))) (stopped (Refused RowLength))) work₁ e work₂
-          (cond c (cond d (answer listed) (refused 8)) (refused 13))
+          (cond c (cond d (answer listed) (refused (no 8))) (refused (no 13)))
       tested true l true f = first (eqb-true (length row) (h .arity) l) f (h .set) refl
       tested true l false f = at-once (Refused Node)
       tested false l d f = at-once (Refused RowLength)
@@ -127,7 +127,7 @@ module _ (h : Head) (table : List Record) (work : List ℕ) (row : Row) where
   long-work l = rw l (go (sound h table) (eqb (length row) (h .arity)) (entriesFit h 0 row))
     where
       go : (c d e : Bool)
-          → workAfter (cond c (cond d (cond e (answer listed) (refused 8)) (refused 13)) (refused 11)) (h .used) work ≡ cleared (h .used) work
+          → workAfter (cond c (cond d (cond e (answer listed) (refused (no 8))) (refused (no 13))) (refused (no 11))) (h .used) work ≡ cleared (h .used) work
       go true true true = refl
       go true true false = refl
       go true false e = refl

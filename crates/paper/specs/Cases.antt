@@ -6,7 +6,7 @@ use Prim.Native.Nat.{ℕ}
 use lib.ListN.{length}
 use Rattle.paper.specs.Row.{Row, blank}
 use Rattle.paper.specs.Records.{Record, Set, empty, unit, Head, listing}
-use Rattle.paper.specs.Refusals.{Reply, refused, answer, build, count, rowByNumber, member, project, fix}
+use Rattle.paper.specs.Refusals.{no, noAt, Reply, refused, answer, build, count, rowByNumber, member, project, fix}
 use Rattle.paper.specs.Answers.{told}
 
 abbrev pub treeA : List ℕ
@@ -74,7 +74,7 @@ abbrev pub cases : List (Shown × Shown)
 cases =
     -- P1
     (recordsAndRows (build (treeA ++ queryQ) 48 7), makes (answer (7, (0 ∷ 1 ∷ []) ∷ [])))
-    ∷ (recordsAndRows (build (treeA ++ queryQ) 48 6), makes (refused 6))
+    ∷ (recordsAndRows (build (treeA ++ queryQ) 48 6), makes (refused (no 6)))
     -- P2
     ∷ (recordsAndRows setB, makes (answer (13, (0 ∷ 3 ∷ []) ∷ (1 ∷ 3 ∷ []) ∷ (0 ∷ 1 ∷ []) ∷ [])))
     ∷ (counts (on setB (λ h table. count h table 13)), counts (answer 3))
@@ -97,14 +97,14 @@ cases =
     ∷ (counts (on (fixing 1 3 setB) (λ h table. count h table 13)), counts (answer 0))
     -- P9
     ∷ (gives (on setB (λ h table. rowByNumber h table 13 2 2)), gives (answer (0 ∷ 1 ∷ [])))
-    ∷ (gives (on setB (λ h table. rowByNumber h table 13 3 2)), gives (refused 9))
+    ∷ (gives (on setB (λ h table. rowByNumber h table 13 3 2)), gives (refused (no 9)))
     -- P10, whose 48 is setB's
-    ∷ (recordsAndRows (build (treeB ++ queryQ) 47 13), makes (refused 5))
+    ∷ (recordsAndRows (build (treeB ++ queryQ) 47 13), makes (refused (no 5)))
     -- empty input; a tree with no query; a branch alone; a place fixed twice
-    ∷ (recordsAndRows (build [] 48 13), makes (refused 1))
-    ∷ (recordsAndRows (build treeB 48 13), makes (refused 3))
-    ∷ (recordsAndRows (build (2 ∷ 9 ∷ []) 48 13), makes (refused 1))
-    ∷ (setIn (fixing 1 0 (fixing 1 0 setB)), holds (refused 7))
+    ∷ (recordsAndRows (build [] 48 13), makes (refused (noAt 1 0)))
+    ∷ (recordsAndRows (build treeB 48 13), makes (refused (noAt 3 10)))
+    ∷ (recordsAndRows (build (2 ∷ 9 ∷ []) 48 13), makes (refused (noAt 1 0)))
+    ∷ (setIn (fixing 1 0 (fixing 1 0 setB)), holds (refused (no 7)))
     ∷ []
 
 pub worked : map (λ c. c .0) cases ≡ map (λ c. c .1) cases

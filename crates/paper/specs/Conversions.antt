@@ -4,7 +4,7 @@ use mathlib.Core.List.{List}
 use mathlib.Core.Path.{_≡_}
 use Prim.Native.Nat.{ℕ, _≤_, _<_}
 use lib.ListN.{length}
-use Rattle.paper.specs.Refusals.{Reply, refused, answer}
+use Rattle.paper.specs.Refusals.{no, Reply, refused, answer}
 use Rattle.paper.specs.WrittenTree.{WrittenTree, Allowed}
 use Rattle.paper.specs.BracketedText.{Writes}
 use Rattle.paper.specs.CanonicalText.{textOf}
@@ -17,8 +17,8 @@ pub record Images (bytes : List ℕ) (w : WrittenTree) : Type 0 where
 
 -- what is replied of a source that is of some tree, or of none, where a tree's result is these bytes and the output has so much room
 pub data Conversion (Of : WrittenTree → Type 0) (result : WrittenTree → List ℕ) (room : ℕ) : Reply (List ℕ) → Type 0 where
-  of-none : ((w : WrittenTree) → Of w → ⊥) → Conversion Of result room (refused 15)
-  no-room : {w : WrittenTree} → Of w → room < length (result w) → Conversion Of result room (refused 10)
+  of-none : ((w : WrittenTree) → Of w → ⊥) → Conversion Of result room (refused (no 15))
+  no-room : {w : WrittenTree} → Of w → room < length (result w) → Conversion Of result room (refused (no 10))
   the-result : {w : WrittenTree} → Of w → length (result w) ≤ room → Conversion Of result room (answer (result w))
 
 -- text to tree

@@ -16,3 +16,4 @@ pub mod CanonicalText
 pub mod Image
 pub mod Conversions
 pub mod PadCases
+pub mod PositionCases

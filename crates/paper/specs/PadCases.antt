@@ -5,7 +5,7 @@ use mathlib.Core.Bool.{true, false}
 use mathlib.Core.List.{List, [], _∷_, _++_, map}
 use Prim.Native.Nat.{ℕ}
 use Rattle.paper.specs.Records.{empty}
-use Rattle.paper.specs.Refusals.{refused, answer, build, count, member, project, fix}
+use Rattle.paper.specs.Refusals.{noAt, refused, answer, build, count, member, project, fix}
 use Rattle.paper.specs.Cases.{Built, Shown, makes, holds, counts, says, marks, on, recordsAndRows, setIn}
 
 -- ---- the image of `9(5 6)`: pads 0, 1, 2, branch 6 as node 3, branch 5 as node 4, pad 5, branch 9 as node 6
@@ -78,9 +78,9 @@ cases =
     ∷ (recordsAndRows (build (onePad (17 ∷ 0 ∷ 1 ∷ 1 ∷ 19 ∷ 1 ∷ [])) 8 0), makes (answer (0, [])))
     ∷ (recordsAndRows (build (onePad (17 ∷ 0 ∷ 0 ∷ 0 ∷ 17 ∷ 0 ∷ 1 ∷ 1 ∷ 19 ∷ 0 ∷ 19 ∷ 1 ∷ [])) 8 0), makes (answer (0, [])))
     -- such a rule is tested as any other: a flag of 2 at arity 1, a state of 2, its left side twice
-    ∷ (recordsAndRows (build (onePad (17 ∷ 0 ∷ 2 ∷ 1 ∷ [])) 8 0), makes (refused 3))
-    ∷ (recordsAndRows (build (onePad (17 ∷ 0 ∷ 1 ∷ 2 ∷ [])) 8 0), makes (refused 3))
-    ∷ (recordsAndRows (build (onePad (17 ∷ 0 ∷ 1 ∷ 1 ∷ 17 ∷ 0 ∷ 1 ∷ 0 ∷ [])) 8 0), makes (refused 4))
+    ∷ (recordsAndRows (build (onePad (17 ∷ 0 ∷ 2 ∷ 1 ∷ [])) 8 0), makes (refused (noAt 3 5)))
+    ∷ (recordsAndRows (build (onePad (17 ∷ 0 ∷ 1 ∷ 2 ∷ [])) 8 0), makes (refused (noAt 3 5)))
+    ∷ (recordsAndRows (build (onePad (17 ∷ 0 ∷ 1 ∷ 1 ∷ 17 ∷ 0 ∷ 1 ∷ 0 ∷ [])) 8 0), makes (refused (noAt 4 9)))
     ∷ []
 
 pub worked : map (λ c. c .0) cases ≡ map (λ c. c .1) cases

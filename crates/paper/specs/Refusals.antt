@@ -2,11 +2,12 @@
 -- Then what every call leaves behind.
 use mathlib.Core.Bool.{Bool, true, false, cond, not, _&&_, _||_}
 use mathlib.Core.List.{List, [], _∷_, _++_}
+use mathlib.Core.Option.{Option, none, some}
 use Prim.Native.Nat.{ℕ, suc, _^_, _-_}
 use lib.Dec.{eqb, ltb, leb}
 use lib.ListN.{length, drop, replicate}
 use Rattle.paper.specs.Lists.{isNil, has, same, allBelow}
-use Rattle.paper.specs.Stream.{StreamRecord, number, whole, recordsOf, treeRecords, queryRecords}
+use Rattle.paper.specs.Stream.{StreamRecord, number, whole, recordsOf, behind, treeRecords, queryRecords}
 use Rattle.paper.specs.Tree.{Tree, unjoined, mostUnjoined, treeOf}
 use Rattle.paper.specs.Query.{Rule, side, Query, isRuleKind, ruleOf, queryOf}
 use Rattle.paper.specs.Row.{Row, blank}
@@ -15,28 +16,55 @@ use Rattle.paper.specs.Sound.{sound}
 use Rattle.paper.specs.Building.{allPlaces, made, buildWork}
 use Rattle.paper.specs.Questions.{hasPlace, questionWork, countOf, rowNumbered, isListed, marksOf, imagesOf, fixedSet, unitTwice}
 
--- an answer, or the number that says no and nothing else
+-- what says no: a number and nothing else, or a number with the byte position of what is at fault, which 1 to 4 have (request 2026-04)
+pub data No : Type 0 where
+  no : (number : ℕ) → No
+  noAt : (number position : ℕ) → No
+
+abbrev pub numberIn : No → ℕ
+numberIn (no n) = n
+numberIn (noAt n p) = n
+
+abbrev pub positionIn : No → Option ℕ
+positionIn (no n) = none
+positionIn (noAt n p) = some p
+
+-- an answer, or what says no
 pub data Reply (A : Type 0) : Type 0 where
-  refused : ℕ → Reply A
+  refused : No → Reply A
   answer : A → Reply A
 
--- a test, and the number that is given where it fails
+-- a test, and what is said where it fails
 abbrev pub Test : Type 0
-Test = ℕ × Bool
+Test = No × Bool
 
--- the answer, unless a test fails: then the number of the first that does
+-- the answer, unless a test fails: then what is said of the first that does
 abbrev pub unless : {A : Type 0} → List Test → A → Reply A
 unless [] a = answer a
 unless (t ∷ ts) a = cond (t .1) (unless ts a) (refused (t .0))
 
 -- ---- the stream
--- the tests at each record in order, given the records before it: the first record at fault decides
-abbrev pub atEach : (List StreamRecord → StreamRecord → List Test) → List StreamRecord → List StreamRecord → List Test
-atEach tests before [] = []
-atEach tests before (r ∷ rs) = tests before r ++ atEach tests (before ++ (r ∷ [])) rs
+-- a test of the stream, and the number that is given where it fails
+abbrev pub StreamTest : Type 0
+StreamTest = ℕ × Bool
+
+-- tests of what stands at a position: where one fails, its number is said with the position
+abbrev pub testsAt : ℕ → List StreamTest → List Test
+testsAt position [] = []
+testsAt position ((n, c) ∷ ts) = (noAt n position, c) ∷ testsAt position ts
+
+-- the tests at each record in order, given the records before it, the first of which stands at `from`: the first record at fault decides,
+-- and the position is that of its first byte
+abbrev pub atEach : (List StreamRecord → StreamRecord → List StreamTest) → ℕ → List StreamRecord → List StreamRecord → List Test
+atEach tests from before [] = []
+atEach tests from before (r ∷ rs) = testsAt (behind from before) (tests before r) ++ atEach tests from (before ++ (r ∷ [])) rs
+
+-- a part of the stream: its records, and then, at the place where it ended, its end
+abbrev pub part : (List StreamRecord → StreamRecord → List StreamTest) → (List StreamRecord → List StreamTest) → ℕ → List StreamRecord → List Test
+part tests endTests from records = atEach tests from [] records ++ testsAt (behind from records) (endTests records)
 
 -- a tree record: 2 before 1, the 4,096th tree kind is seen before its body
-abbrev pub treeTests : List StreamRecord → StreamRecord → List Test
+abbrev pub treeTests : List StreamRecord → StreamRecord → List StreamTest
 treeTests before r =
     (2, ltb (length before) 4095)
     ∷ (1, whole r)
@@ -45,11 +73,11 @@ treeTests before r =
     ∷ []
 
 -- where the tree ends: it has a node, and is one subtree
-abbrev pub treeEndTests : List StreamRecord → List Test
+abbrev pub treeEndTests : List StreamRecord → List StreamTest
 treeEndTests records = (1, not (isNil records)) ∷ (1, eqb (length (unjoined records)) 1) ∷ []
 
 -- the head of the query comes first
-abbrev pub headTests : StreamRecord → List Test
+abbrev pub headTests : StreamRecord → List StreamTest
 headTests r =
     (3, eqb (r .kind) 16)
     ∷ (3, whole r)
@@ -74,7 +102,7 @@ abbrev pub isNew : Query → StreamRecord → Bool
 isNew Q r = cond (isRuleKind (r .kind)) (not (hasSide (Q .rules) (side (ruleOf r)))) (not (has (Q .accepting) (number r 0)))
 
 -- a later record, after those that make Q: no second head, no unknown kind, no 1,025th rule; 3 before 4
-abbrev pub laterTests : Query → StreamRecord → List Test
+abbrev pub laterTests : Query → StreamRecord → List StreamTest
 laterTests Q r =
     (3, leb 17 (r .kind) && leb (r .kind) 19)
     ∷ (3, whole r)
@@ -83,19 +111,21 @@ laterTests Q r =
     ∷ (4, isNew Q r)
     ∷ []
 
-abbrev pub queryTests : List StreamRecord → StreamRecord → List Test
+abbrev pub queryTests : List StreamRecord → StreamRecord → List StreamTest
 queryTests [] r = headTests r
 queryTests (h ∷ before) r = laterTests (queryOf (h ∷ before)) r
 
 -- where the query ends: it has a head
-abbrev pub queryEndTests : List StreamRecord → List Test
+abbrev pub queryEndTests : List StreamRecord → List StreamTest
 queryEndTests records = (3, not (isNil records)) ∷ []
 
+-- the tree begins with the input
 abbrev pub treePart : List StreamRecord → List Test
-treePart records = atEach treeTests [] records ++ treeEndTests records
+treePart records = part treeTests treeEndTests 0 records
 
-abbrev pub queryPart : List StreamRecord → List Test
-queryPart records = atEach queryTests [] records ++ queryEndTests records
+-- the query begins where the tree has ended
+abbrev pub queryPart : ℕ → List StreamRecord → List Test
+queryPart from records = part queryTests queryEndTests from records
 
 -- ---- build
 abbrev pub treeIn : List ℕ → Tree
@@ -127,9 +157,9 @@ headFrom input = record {
 abbrev pub buildTests : List ℕ → ℕ → ℕ → List Test
 buildTests input workLength tableLength =
     treePart (treeRecords (recordsOf input))
-    ++ (queryPart (queryRecords (recordsOf input))
-    ++ ((5, leb (workFor input) workLength)
-    ∷ (6, leb (length (madeFrom input)) tableLength && leb (length (madeFrom input)) 60000)
+    ++ (queryPart (behind 0 (treeRecords (recordsOf input))) (queryRecords (recordsOf input))
+    ++ ((no 5, leb (workFor input) workLength)
+    ∷ (no 6, leb (length (madeFrom input)) tableLength && leb (length (madeFrom input)) 60000)
     ∷ []))
 
 abbrev pub build : List ℕ → ℕ → ℕ → Reply (Head × List Record)
@@ -138,7 +168,7 @@ build input workLength tableLength = unless (buildTests input workLength tableLe
 -- the program, with its table of 2,000 entries and its work of 16,384, gives 14 before all. It tells the records made and the rows
 abbrev pub program : List ℕ → Reply (ℕ × List Row)
 program input =
-    unless ((14, leb (length input) 16384) ∷ buildTests input 16384 2000)
+    unless ((no 14, leb (length input) 16384) ∷ buildTests input 16384 2000)
     (length (madeFrom input), listing (headFrom input) (madeFrom input))
 
 -- ---- the questions: 5, 11, 13, 7, 8, 9, 10, 6, 12, as far as they apply
@@ -153,25 +183,25 @@ entriesFit h i (x ∷ xs) = cond (hasPlace (h .open_places) i) (ltb x (h .nodes)
 
 module _ (h : Head) (table : List Record) (workLength : ℕ) where
   abbrev pub askTests : List Test
-  askTests = (5, leb (questionWork h) workLength) ∷ (11, sound h table) ∷ []
+  askTests = (no 5, leb (questionWork h) workLength) ∷ (no 11, sound h table) ∷ []
 
   abbrev pub count : Reply ℕ
   count = unless askTests (countOf h table)
 
   abbrev pub rowTests : ℕ → ℕ → List Test
-  rowTests k outLength = askTests ++ (9, ltb k (countOf h table)) ∷ (10, leb (h .arity) outLength) ∷ []
+  rowTests k outLength = askTests ++ (no 9, ltb k (countOf h table)) ∷ (no 10, leb (h .arity) outLength) ∷ []
 
   abbrev pub rowByNumber : ℕ → ℕ → Reply Row
   rowByNumber k outLength = unless (rowTests k outLength) (rowNumbered h table k)
 
   abbrev pub memberTests : Row → List Test
-  memberTests row = askTests ++ (13, eqb (length row) (h .arity)) ∷ (8, entriesFit h 0 row) ∷ []
+  memberTests row = askTests ++ (no 13, eqb (length row) (h .arity)) ∷ (no 8, entriesFit h 0 row) ∷ []
 
   abbrev pub member : Row → Reply Bool
   member row = unless (memberTests row) (isListed (listing h table) row)
 
   abbrev pub projectTests : ℕ → ℕ → List Test
-  projectTests place outLength = askTests ++ (7, isOpen h place) ∷ (10, leb (h .nodes) outLength) ∷ []
+  projectTests place outLength = askTests ++ (no 7, isOpen h place) ∷ (no 10, leb (h .nodes) outLength) ∷ []
 
   abbrev pub project : ℕ → ℕ → Reply (List ℕ)
   project place outLength = unless (projectTests place outLength) (marksOf h table place)
@@ -179,10 +209,10 @@ module _ (h : Head) (table : List Record) (workLength : ℕ) where
   abbrev pub fixTests : ℕ → ℕ → ℕ → List Test
   fixTests place n targetLength =
       askTests
-      ++ (7, isOpen h place)
-      ∷ (8, ltb n (h .nodes))
-      ∷ (6, leb (h .used) targetLength)
-      ∷ (12, not (unitTwice ((imagesOf (place - 1) n (usedOf h table)) .1) (usedOf h table)))
+      ++ (no 7, isOpen h place)
+      ∷ (no 8, ltb n (h .nodes))
+      ∷ (no 6, leb (h .used) targetLength)
+      ∷ (no 12, not (unitTwice ((imagesOf (place - 1) n (usedOf h table)) .1) (usedOf h table)))
       ∷ []
 
   abbrev pub fix : ℕ → ℕ → ℕ → Reply (Head × List Record)
@@ -195,12 +225,12 @@ over new old = new ++ drop (length new) old
 
 -- the work of a call that asks for n numbers: 1 to 5 leave all of it unchanged, else the first n are zero
 abbrev pub workAfter : {A : Type 0} → Reply A → ℕ → List ℕ → List ℕ
-workAfter (refused r) n work = cond (leb r 5) work (over (replicate n 0) work)
+workAfter (refused r) n work = cond (leb (numberIn r) 5) work (over (replicate n 0) work)
 workAfter (answer a) n work = over (replicate n 0) work
 
 -- build's table: refusal 6 makes every entry blank, 1 to 5 change nothing
 abbrev pub tableAfter : Reply (Head × List Record) → List Record → List Record
-tableAfter (refused r) table = cond (eqb r 6) (replicate (length table) blankEntry) table
+tableAfter (refused r) table = cond (eqb (numberIn r) 6) (replicate (length table) blankEntry) table
 tableAfter (answer a) table = over (a .1) table
 
 -- fix's target

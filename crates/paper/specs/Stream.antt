@@ -1,8 +1,8 @@
 -- 'The input stream': its records, and where the tree's end and the query's begin.
--- First the length of each body, then the records that the bytes make, then the two parts.
+-- First the length of each body, then the records that the bytes make and where the next one stands, then the two parts.
 use mathlib.Core.Bool.{Bool, cond, _||_}
 use mathlib.Core.List.{List, [], _∷_}
-use Prim.Native.Nat.{ℕ, zero, suc}
+use Prim.Native.Nat.{ℕ, zero, suc, _+_}
 use lib.Dec.{eqb}
 use lib.ListN.{length, getD, take, drop}
 
@@ -40,6 +40,11 @@ recordsWithin (suc most) (k ∷ bytes) =
 
 abbrev pub recordsOf : List ℕ → List StreamRecord
 recordsOf input = recordsWithin (length input) input
+
+-- the position behind records, the first of which stands at the given one: each takes up its kind and its body
+abbrev pub behind : ℕ → List StreamRecord → ℕ
+behind position [] = position
+behind position (r ∷ rs) = behind (position + suc (length (r .body))) rs
 
 abbrev pub isTreeKind : ℕ → Bool
 isTreeKind k = eqb k 1 || eqb k 2

@@ -2,7 +2,8 @@
 // an answer for each call. The kinds of records and the limits have files of their own. What they mean stands in specs/, section
 // by section; specs/Answers.antt has the number of each refusal.
 ghost use mathlib.Core.Path.{_≡_};
-ghost use Rattle.paper.specs.Answers.{numberOf};
+ghost use Rattle.paper.specs.Answers.{noOf, numberOf, saysPosition};
+ghost use Rattle.paper.specs.Refusals.{positionIn};
 
 pub mod kinds;
 pub mod limits;
@@ -49,14 +50,15 @@ impl Place {
     pub const BLANK: u16 = 65535;
 }
 
-// The numbers that say no, in the order of their table, each case named after its cause. It is one enum for all calls, so that a number
-// means the same wherever it is met; which call gives which, and which first, is said in specs/Refusals.antt, and for the two calls of
-// request 2026-01 in specs/Conversions.antt.
+// The numbers that say no, in the order of their table, each case named after its cause. The first four are of the input stream and have
+// the byte position of what is at fault (request 2026-04). It is one enum for all calls, so that a number means the same wherever it is
+// met; which call gives which, and which first, is said in specs/Refusals.antt, and for the two calls of request 2026-01 in
+// specs/Conversions.antt.
 pub enum Refusal {
-    Tree,
-    ManyNodes,
-    Query,
-    Twice,
+    Tree(usize),
+    ManyNodes(usize),
+    Query(usize),
+    Twice(usize),
     ShortWork,
     ShortTable,
     Place,
@@ -70,6 +72,12 @@ pub enum Refusal {
     Text,
 }
 
+// Where a refusal says that the input is at fault.
+pub enum Position {
+    At(usize),
+    None,
+}
+
 impl Refusal {
     // The paper's number. In Rattle it stands here only: the functions for C and the program ask this one. The header and the bindings
     // list the numbers once more, for those who write in C, Fortran or Rust.
@@ -77,10 +85,10 @@ impl Refusal {
         ensures { λ n. ⌜ n ≡ numberOf self ⌝ }
     {
         match self {
-            Refusal::Tree => 1,
-            Refusal::ManyNodes => 2,
-            Refusal::Query => 3,
-            Refusal::Twice => 4,
+            Refusal::Tree(_) => 1,
+            Refusal::ManyNodes(_) => 2,
+            Refusal::Query(_) => 3,
+            Refusal::Twice(_) => 4,
             Refusal::ShortWork => 5,
             Refusal::ShortTable => 6,
             Refusal::Place => 7,
@@ -92,6 +100,19 @@ impl Refusal {
             Refusal::RowLength => 13,
             Refusal::LongInput => 14,
             Refusal::Text => 15,
+        }
+    }
+
+    // The position that 1 to 4 have.
+    pub fn position(self) -> Position
+        ensures { λ p. ⌜ saysPosition p ≡ positionIn (noOf self) ⌝ }
+    {
+        match self {
+            Refusal::Tree(at) => Position::At(at),
+            Refusal::ManyNodes(at) => Position::At(at),
+            Refusal::Query(at) => Position::At(at),
+            Refusal::Twice(at) => Position::At(at),
+            _ => Position::None,
         }
     }
 }

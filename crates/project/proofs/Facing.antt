@@ -18,10 +18,10 @@ use Rattle.paper.specs.declared.Refusal.{Refusal}
 use Rattle.paper.specs.declared.Refusal.the-variants.{Place, ShortOutput}
 use Rattle.paper.specs.declared.Set.{Set}
 use Rattle.paper.specs.declared.Set.the-variants.{Empty as empty, Unit as unit, Record as at}
-use Rattle.paper.specs.Answers.{numberOf, saysProjected, told}
+use Rattle.paper.specs.Answers.{saysProjected, told, noOf}
 use Rattle.paper.specs.Questions.{marksOf}
 use Rattle.paper.specs.Records.{blankEntry, usedOf}
-use Rattle.paper.specs.Refusals.{Reply, Test, answer, isOpen, outputAfter, over, project, refused, unless, workAfter}
+use Rattle.paper.specs.Refusals.{Reply, Test, answer, isOpen, outputAfter, over, project, refused, unless, workAfter, no}
 use Rattle.paper.specs.Sound.{entry}
 use Rattle.laws.specs.QuestionCauses.{IsProduct, IsSingle, IsUnion, SetFits, Sound}
 use Rattle.sound.specs.declared.Weighed.{Weighed}
@@ -50,7 +50,7 @@ module _ (h : Head) (table : List Record) (work : List ℕ) (place : ℕ) (out :
 
   -- ---- once the question is begun
   data Begun (s : State) (work₂ : List ℕ) : Type 0 where
-    stopped : (why : Refusal) → asked ≡ refused (numberOf why) → s ≡ refusedState why → work₂ ≡ workAfter asked (h .used) work → Begun s work₂
+    stopped : (why : Refusal) → asked ≡ refused (noOf why) → s ≡ refusedState why → work₂ ≡ workAfter asked (h .used) work → Begun s work₂
     goes : Weighing → isOpen h place ≡ true → h .nodes ≤ length out → asked ≡ answer (marksOf h table place) → s ≡ rootState h place (h .set)
         → work₂ ≡ rootMarked (h .set) (cleared work (h .used)) → Begun s work₂
 
@@ -60,7 +60,7 @@ module _ (h : Head) (table : List Record) (work : List ℕ) (place : ℕ) (out :
 
   -- the tests that are left once the set is sound
   abbrev others : List Test
-  others = (7, isOpen h place) ∷ (10, leb (h .nodes) (length out)) ∷ []
+  others = (no 7, isOpen h place) ∷ (no 10, leb (h .nodes) (length out)) ∷ []
 
   module _ (work₁ : List ℕ) (w : Weighs h table work WeighedIs.Sound work₁) where
     begins-sound : (s : State) (work₂ : List ℕ) → s ≡ started h place (length out) → work₂ ≡ startedWork h place (length out) work₁ → Begun s work₂
@@ -71,11 +71,11 @@ module _ (h : Head) (table : List Record) (work : List ℕ) (place : ℕ) (out :
 
         go : (c : Bool) → isOpen h place ≡ c → (d : Bool) → leb (h .nodes) (length out) ≡ d → Begun s work₂
         go false e d f =
-            let says : asked ≡ refused 7 = left-over ∙ rw e refl in
+            let says : asked ≡ refused (no 7) = left-over ∙ rw e refl in
             let left : work₂ ≡ cleared work (h .used) = ew ∙ rw e (sound-clears w refl) in
             stopped Place says (es ∙ rw e refl) (left ∙ sym (leaves says))
         go true e false f =
-            let says : asked ≡ refused 10 = left-over ∙ rw (e, f) refl in
+            let says : asked ≡ refused (no 10) = left-over ∙ rw (e, f) refl in
             let left : work₂ ≡ cleared work (h .used) = ew ∙ rw (e, f) (sound-clears w refl) in
             stopped ShortOutput says (es ∙ rw (e, f) refl) (left ∙ sym (leaves says))
         go true e true f =
@@ -120,7 +120,7 @@ module _ (h : Head) (table : List Record) (work : List ℕ) (place : ℕ) (out :
 
   -- ---- once it is driven
   data Ended (e : State) (work₃ : List ℕ) : Type 0 where
-    refused-with : (why : Refusal) → asked ≡ refused (numberOf why) → e .answer ≡ Refused why → work₃ ≡ workAfter asked (h .used) work → Ended e work₃
+    refused-with : (why : Refusal) → asked ≡ refused (noOf why) → e .answer ≡ Refused why → work₃ ≡ workAfter asked (h .used) work → Ended e work₃
     passed-all : (W : Weighing) (opened : isOpen h place ≡ true) → h .nodes ≤ length out → asked ≡ answer (marksOf h table place)
         → e .answer ≡ Marks → e .used ≡ h .used → e .nodes ≡ h .nodes
         → work₃ ≡ last h table (W .sound) place opened work (W .room) → Ended e work₃

@@ -13,9 +13,9 @@ use Rattle.paper.specs.declared.Record.{Record}
 use Rattle.paper.specs.declared.Refusal.{Refusal}
 use Rattle.paper.specs.declared.Refusal.the-variants.{RowNumber, ShortOutput}
 use Rattle.paper.specs.declared.Written.{Written}
-use Rattle.paper.specs.Answers.{numberOf, saysWritten, told}
+use Rattle.paper.specs.Answers.{saysWritten, told, noOf}
 use Rattle.paper.specs.Questions.{countOf, questionWork, rowNumbered}
-use Rattle.paper.specs.Refusals.{Reply, Test, answer, outputAfter, over, refused, rowByNumber, unless, workAfter}
+use Rattle.paper.specs.Refusals.{Reply, Test, answer, outputAfter, over, refused, rowByNumber, unless, workAfter, no}
 use Rattle.paper.specs.Row.{Row}
 use Rattle.laws.specs.QuestionCauses.{Sound}
 use Rattle.sound.specs.Counting.{rowsInSet}
@@ -91,7 +91,7 @@ module _ (h : Head) (table : List Record) (work : List ℕ) (number : ℕ) (out 
   reply = rowByNumber h table (length work) number (length out)
 
   abbrev more : List Test
-  more = (9, ltb number (countOf h table)) ∷ (10, leb (h .arity) (length out)) ∷ []
+  more = (no 9, ltb number (countOf h table)) ∷ (no 10, leb (h .arity) (length out)) ∷ []
 
   numbers-at : (R : Reply Row) → reply ≡ R → {a : Written} {work′ out′ : List ℕ} → saysWritten a ≡ told (λ _. tt) R
       → work′ ≡ workAfter R (questionWork h) work → out′ ≡ outputAfter R out → Numbers h table work number out a work′ out′
@@ -118,7 +118,7 @@ module _ (h : Head) (table : List Record) (work : List ℕ) (number : ℕ) (out 
         → Numbers h table work number out a work′ out′
     refused-before {why} W same =
         let none : min 0 (length w₃) ≡ 0 = omega arith in
-        numbers-at (refused (numberOf why)) (refused-reply W refl more (rowNumbered h table number))
+        numbers-at (refused (noOf why)) (refused-reply W refl more (rowNumbered h table number))
         (ap saysWritten (told-answer (refusedWith why 0) same))
         (left-work (refusedWith why 0) same
         ∙ ap (λ (n : ℕ). over (replicate n 0) w₃) none
@@ -140,12 +140,12 @@ module _ (h : Head) (table : List Record) (work : List ℕ) (number : ℕ) (out 
       answers-along (nine late is) d =
           let q = refusedWith RowNumber (h .used) in
           let same : e .asked ≡ q .asked = d .asked ∙ ap (λ (x : State). x .asked) is in
-          numbers-at (refused 9) (replies ∙ rw (le-ltb number (countOf h table) late) refl)
+          numbers-at (refused (no 9)) (replies ∙ rw (le-ltb number (countOf h table) late) refl)
           (ap saysWritten (told-answer q same)) (used-cleared q same refl) (left-out q same)
       answers-along (ten early short is) d =
           let q = refusedWith ShortOutput (h .used) in
           let same : e .asked ≡ q .asked = d .asked ∙ ap (λ (x : State). x .asked) is in
-          numbers-at (refused 10) (replies ∙ rw (lt-ltb number (countOf h table) early, lt-leb (h .arity) (length out) short) refl)
+          numbers-at (refused (no 10)) (replies ∙ rw (lt-ltb number (countOf h table) early, lt-leb (h .arity) (length out) short) refl)
           (ap saysWritten (told-answer q same)) (used-cleared q same refl) (left-out q same)
       answers-along {w = w} {w′ = w′} (searches early enough is) d =
           let q = seeking h (rootIn (h .set)) number in

@@ -10,27 +10,17 @@ use lib.ListN.{drop, length, replicate}
 use Rattle.paper.specs.declared.Head.{Head}
 use Rattle.paper.specs.declared.Record.{Record}
 use Rattle.paper.specs.declared.Refusal.{Refusal}
-use Rattle.paper.specs.Answers.{numberOf}
+use Rattle.paper.specs.Answers.{noOf}
 use Rattle.paper.specs.Questions.{questionWork}
 use Rattle.paper.specs.Refusals.{Reply, Test, answer, askTests, over, refused, unless, workAfter}
 use Rattle.laws.specs.QuestionCauses.{Sound as SoundSet}
-use Rattle.laws.proofs.Replies.{Passes, answered, refused-inj, refused-not-answer, unless-append}
+use Rattle.laws.proofs.Replies.{Passes, answered, refused-append, unless-append}
 use Rattle.laws.proofs.SoundTest.{sound-is}
 use Rattle.sound.specs.Face.{Weighs}
 use Rattle.sound.specs.Weights.{Weighed, saysWeighed, weighedWork, weighing, weights}
 use Rattle.sound.specs.declared.Weighed.the-variants.{Refused, Sound}
 use Rattle.sound.proofs.Cells.{behind-cells, weighed-length}
 use Rattle.sound.proofs.Overwriting.{cleared-all, cleared-same}
-
--- a refusal stays, whatever is tested behind it and whatever would be answered
-refused-too : {A B : Type 0} (ts more : List Test) (a : A) (b : B) {n : ℕ} → unless ts a ≡ refused n → unless (ts ++ more) b ≡ refused n
-refused-too [] more a b e = absurd (refused-not-answer (sym e))
-refused-too {A} {B} (t ∷ ts) more a b {n} e = go (t .1) e (refused-too ts more a b)
-  where
-    go : (c : Bool) → cond c (unless ts a) (refused (t .0)) ≡ refused n → (unless ts a ≡ refused n → unless (ts ++ more) b ≡ refused n)
-        → cond c (unless (ts ++ more) b) (refused (t .0)) ≡ refused n
-    go true e′ further = further e′
-    go false e′ further = ap refused (refused-inj e′)
 
 module _ {h : Head} {table : List Record} {work work′ : List ℕ} {r : Weighed} (W : Weighs h table work r work′) where
   abbrev tests : List Test
@@ -73,11 +63,11 @@ module _ {h : Head} {table : List Record} {work work′ : List ℕ} {r : Weighed
 
   -- ---- it is refused
   module _ {why : Refusal} (said : r ≡ Refused why) {A : Type 0} (more : List Test) (a : A) where
-    refusal : weighing h table (length work) ≡ refused (numberOf why)
+    refusal : weighing h table (length work) ≡ refused (noOf why)
     refusal = sym (W .answer) ∙ ap saysWeighed said
 
-    pub refused-reply : unless (tests ++ more) a ≡ refused (numberOf why)
-    refused-reply = refused-too tests more tt a refusal
+    pub refused-reply : unless (tests ++ more) a ≡ refused (noOf why)
+    refused-reply = refused-append tests more tt a refusal
 
     pub refused-work : work′ ≡ workAfter (unless (tests ++ more) a) (questionWork h) work
     refused-work =

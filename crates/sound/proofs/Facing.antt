@@ -14,7 +14,7 @@ use Rattle.paper.specs.declared.Record.{Record}
 use Rattle.paper.specs.declared.Set.{Set}
 use Rattle.paper.specs.declared.Set.the-variants.{Empty as empty, Unit as unit, Record as at}
 use Rattle.paper.specs.Records.{usedOf}
-use Rattle.paper.specs.Refusals.{Reply, answer, over, refused}
+use Rattle.paper.specs.Refusals.{Reply, answer, over, refused, no}
 use Rattle.paper.specs.Sound.{entry, sound}
 use Rattle.laws.specs.QuestionCauses.{SetFits, Sound}
 use Rattle.laws.proofs.Lists.{both-true, iff-eq, which}
@@ -179,7 +179,7 @@ module _ (h : Head) (table : List Record) (work : List ℕ) where
       short-face test =
           let short = leb-false (h .used) (length work) test in
           let (refusal, left) = J .short (omega (arith, long, short)) in
-          replies (refused 5) (rw test) (ap saysWeighed refusal) (left ∙ unmoved short)
+          replies (refused (no 5)) (rw test) (ap saysWeighed refusal) (left ∙ unmoved short)
 
       module _ (test : leb (h .used) (length work) ≡ true) where
         room : h .used ≤ length work
@@ -196,7 +196,7 @@ module _ (h : Head) (table : List Record) (work : List ℕ) where
         not-face : sound h table ≡ false → Weighs h table work r work′
         not-face is =
             let (refusal, left) = J .not-sound room′ (judged room ∙ is) in
-            replies (refused 11) (rw (test, is)) (ap saysWeighed refusal) (left ∙ cleared-work room)
+            replies (refused (no 11)) (rw (test, is)) (ap saysWeighed refusal) (left ∙ cleared-work room)
 
       pub face : Weighs h table work r work′
       face =

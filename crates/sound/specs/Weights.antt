@@ -9,13 +9,13 @@ use Rattle.paper.specs.Row.{Row}
 use Rattle.paper.specs.Records.{listings, usedOf}
 use Rattle.paper.specs.Questions.{questionWork}
 use Rattle.paper.specs.Refusals.{Reply, refused, answer, unless, askTests, over, workAfter}
-use Rattle.paper.specs.Answers.{numberOf}
+use Rattle.paper.specs.Answers.{noOf}
 pub use Rattle.sound.specs.declared.Weighed.{Weighed}
 use Rattle.sound.specs.declared.Weighed.the-variants as WeighedIs
 
 abbrev pub saysWeighed : Weighed → Reply (Unit {0})
 saysWeighed WeighedIs.Sound = answer tt
-saysWeighed (WeighedIs.Refused r) = refused (numberOf r)
+saysWeighed (WeighedIs.Refused r) = refused (noOf r)
 
 abbrev pub weight : List Row → Record → ℕ
 weight rows r = 16 * length rows + r .flag

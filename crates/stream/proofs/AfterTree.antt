@@ -1,9 +1,9 @@
 -- For callers: the query's records stand at the tree's end, so what is read there is the query of the input.
 -- And what a query that is read tells: where the records behind its head stand, that they are whole, and that they make its rules.
 use mathlib.Core.Bool.{Bool, cond, false, false≢true, true}
-use mathlib.Core.List.{List, List·Memᴰ·tail, [], _∷_}
+use mathlib.Core.List.{List, List·Memᴰ·cases-cons, List·Memᴰ·not-nil, List·Memᴰ·tail, [], _∷_}
 use mathlib.Core.Logic.{⊎-elim}
-use mathlib.Core.Path.{_∙_, _≡_, ap, refl, subst, sym}
+use mathlib.Core.Path.{_∙_, _≡_, ap, ap₂, refl, subst, sym}
 use Prim.Native.Nat.{_*_, _+_, _<_, _≤_, suc, zero, ℕ}
 use native.Mathlib.Omega.{arith}
 use borrow.Author.Tests.{eqb-true, leb-true, ltb-false, ltb-true}
@@ -12,17 +12,20 @@ use lib.ListN.{drop, getD, length, length-drop}
 use lib.Seq.{drop-drop}
 use Rattle.paper.specs.Lists.{_∈_}
 use Rattle.paper.specs.Query.{Query, acceptingOf, queryOf, rulesOf}
-use Rattle.paper.specs.Refusals.{answer, atEach, headTests, laterTests, nodesIn, queryEndTests, queryIn, queryPart, queryTests, unless}
-use Rattle.paper.specs.Stream.{StreamRecord, bodyLength, isTreeKind, number, queryRecords, recordsOf, treeRecords, whole}
+use Rattle.paper.specs.Refusals.{answer, atEach, headTests, laterTests, nodesIn, queryEndTests, queryIn, queryPart, queryTests, testsAt, treeEndTests, treePart, treeTests, unless}
+use Rattle.paper.specs.Stream.{StreamRecord, behind, bodyLength, isTreeKind, number, queryRecords, recordsOf, treeRecords, whole}
+use Rattle.laws.specs.StreamCauses.{AllTree, TreeKind}
+use Rattle.laws.proofs.AtEach.{part-each}
 use Rattle.laws.proofs.Lists.{both-true, which}
-use Rattle.laws.proofs.Replies.{Passes, answered, passes-left, passes-right}
-use Rattle.laws.proofs.StreamPlaces.{firstRecord, records-cons, tree-kind}
+use Rattle.laws.proofs.Replies.{Passes, answered, passes-right}
+use Rattle.laws.proofs.StreamPlaces.{behind-written, firstRecord, records-cons, tree-kind}
 use Rattle.stream.specs.OneRecord.{queryWith}
 use Rattle.stream.specs.Positions.{after, recordAt}
 use Rattle.stream.specs.Reading.{QueryFacts, queryFacts, queryReply}
 use Rattle.stream.proofs.EachRecord.{each-passed}
 use Rattle.stream.proofs.Positions.{records-here, records-none}
 use Rattle.stream.proofs.QueryReading.{tests-behind}
+use Rattle.stream.proofs.TreeReading.{tree-bytes}
 
 -- the records are the query's from two bytes behind each of the tree's on
 BehindTree : List ℕ → List StreamRecord → Type 0
@@ -71,9 +74,31 @@ facts-after-tree input = λ i. record {
   rules = 2 * nodesIn input + 3;
 }
 
-pub reply-after-tree : (input : List ℕ)
-    → queryReply input (2 * nodesIn input) ≡ unless (queryPart (queryRecords (recordsOf input))) (queryFacts input (2 * nodesIn input))
-reply-after-tree input = ap (λ records. unless (queryPart records) (queryFacts input (2 * nodesIn input))) (sym (query-after-tree input))
+-- the tree's records, which are whole where their tests pass, end there
+tree-kinds : (records : List StreamRecord) → AllTree (treeRecords records)
+tree-kinds [] r m = absurd (List·Memᴰ·not-nil m)
+tree-kinds (x ∷ xs) r m = go (isTreeKind (x .kind)) refl m (tree-kinds xs r)
+  where
+    go : (c : Bool) → isTreeKind (x .kind) ≡ c → r ∈ cond c (x ∷ treeRecords xs) [] → (r ∈ treeRecords xs → TreeKind (r .kind)) → TreeKind (r .kind)
+    go true e n later = ⊎-elim (λ is. subst (λ z. TreeKind (z .kind)) (sym is) (tree-kind (x .kind) e)) later (List·Memᴰ·cases-cons n)
+    go false e n later = absurd (List·Memᴰ·not-nil n)
+
+pub behind-records : (input : List ℕ) → Passes (treePart (treeRecords (recordsOf input))) → behind 0 (treeRecords (recordsOf input)) ≡ 2 * nodesIn input
+behind-records input p =
+    omega (arith, behind-written 0 (treeRecords (recordsOf input)), tree-bytes (treeRecords (recordsOf input)) (tree-kinds (recordsOf input)) are-whole)
+  where
+    are-whole : (r : StreamRecord) → r ∈ treeRecords (recordsOf input) → length (r .body) ≡ bodyLength (r .kind)
+    are-whole r m =
+        eqb-true (length (r .body)) (bodyLength (r .kind))
+        (each-passed treeTests 0 (λ x. whole x ≡ true) (λ before x q. q .1 .0) [] (treeRecords (recordsOf input))
+        (part-each treeTests treeEndTests 0 (treeRecords (recordsOf input)) p) r m)
+
+pub reply-after-tree : (input : List ℕ) → Passes (treePart (treeRecords (recordsOf input)))
+    → queryReply input (2 * nodesIn input)
+    ≡ unless (queryPart (behind 0 (treeRecords (recordsOf input))) (queryRecords (recordsOf input))) (queryFacts input (2 * nodesIn input))
+reply-after-tree input p =
+    ap₂ (λ from records. unless (queryPart from records) (queryFacts input (2 * nodesIn input))) (sym (behind-records input p))
+    (sym (query-after-tree input))
 
 -- ---- a query that is read
 tells-whole : (before : List StreamRecord) (r : StreamRecord) → Passes (queryTests before r) → whole r ≡ true
@@ -90,8 +115,8 @@ tells-behind Q r p =
     (leb-true 17 (r .kind) (both .0), leb-true (r .kind) 19 (both .1))
 
 module _ (input : List ℕ) (at : ℕ) (f : QueryFacts) (e : answer f ≡ queryReply input at) where
-  read : Passes (queryPart (recordsOf (drop at input))) × (queryFacts input at ≡ f)
-  read = answered (queryPart (recordsOf (drop at input))) (sym e)
+  read : Passes (queryPart at (recordsOf (drop at input))) × (queryFacts input at ≡ f)
+  read = answered (queryPart at (recordsOf (drop at input))) (sym e)
 
   inside : at < length input
   inside = ⊎-elim (ltb-true at (length input)) none (which (ltb at (length input)))
@@ -99,39 +124,41 @@ module _ (input : List ℕ) (at : ℕ) (f : QueryFacts) (e : answer f ≡ queryR
       none : ltb at (length input) ≡ false → at < length input
       none h =
           let left : recordsOf (drop at input) ≡ [] = records-none input at (ltb-false at (length input) h) in
-          absurd (false≢true (subst (λ records. Passes (queryPart records)) left (read .0) .0))
+          absurd (false≢true (subst (λ records. Passes (queryPart at records)) left (read .0) .0))
 
-  tests : Passes (atEach queryTests [] (recordAt input at ∷ recordsOf (drop (after input at) input)))
+  tests : Passes (atEach queryTests at [] (recordAt input at ∷ recordsOf (drop (after input at) input)))
   tests =
-      subst (λ records. Passes (atEach queryTests [] records)) (records-here input at inside)
-      (passes-left (atEach queryTests [] (recordsOf (drop at input))) (queryEndTests (recordsOf (drop at input))) (read .0))
+      subst (λ records. Passes (atEach queryTests at [] records)) (records-here input at inside)
+      (part-each queryTests queryEndTests at (recordsOf (drop at input)) (read .0))
 
-  behind : after input at ≡ f .rules
-  behind = omega (arith, ap bodyLength (eqb-true (getD input at 0) 16 (tests .0)), ap (λ (g : QueryFacts). g .rules) (read .1))
+  behind-head : after input at ≡ f .rules
+  behind-head = omega (arith, ap bodyLength (eqb-true (getD input at 0) 16 (tests .0)), ap (λ (g : QueryFacts). g .rules) (read .1))
 
   -- the head, then the records behind it
   pub records-read : recordsOf (drop at input) ≡ recordAt input at ∷ recordsOf (drop (f .rules) input)
-  records-read = records-here input at inside ∙ ap {B = List StreamRecord} (λ n. recordAt input at ∷ recordsOf (drop n input)) behind
+  records-read = records-here input at inside ∙ ap {B = List StreamRecord} (λ n. recordAt input at ∷ recordsOf (drop n input)) behind-head
 
   -- these are whole
   pub whole-read : (r : StreamRecord) → r ∈ recordsOf (drop (f .rules) input) → whole r ≡ true
   whole-read r m =
-      each-passed queryTests (λ x. whole x ≡ true) tells-whole [] _ tests r
-      (List·Memᴰ·tail (subst (λ n. r ∈ recordsOf (drop n input)) (sym behind) m))
+      each-passed queryTests at (λ x. whole x ≡ true) tells-whole [] _ tests r
+      (List·Memᴰ·tail (subst (λ n. r ∈ recordsOf (drop n input)) (sym behind-head) m))
 
   -- of kinds that stand there
   pub kinds-read : (r : StreamRecord) → r ∈ recordsOf (drop (f .rules) input) → Behind r
   kinds-read r m =
-      each-passed (λ before x. laterTests (queryWith numbers before) x) Behind (λ before x. tells-behind (queryWith numbers before) x) [] _ later r
-      (subst (λ n. r ∈ recordsOf (drop n input)) (sym behind) m)
+      each-passed (λ before x. laterTests (queryWith numbers before) x) _ Behind (λ before x. tells-behind (queryWith numbers before) x) [] _ later r
+      (subst (λ n. r ∈ recordsOf (drop n input)) (sym behind-head) m)
     where
       numbers : QueryFacts
       numbers = record { arity = number (recordAt input at) 0; states = number (recordAt input at) 1; rules = f .rules }
 
-      later : Passes (atEach (λ before x. laterTests (queryWith numbers before) x) [] (recordsOf (drop (after input at) input)))
+      later : Passes (atEach (λ before x. laterTests (queryWith numbers before) x) (at + suc (length (recordAt input at .body))) []
+          (recordsOf (drop (after input at) input)))
       later =
-          subst Passes (tests-behind numbers (recordAt input at) refl refl [] (recordsOf (drop (after input at) input)))
-          (passes-right (headTests (recordAt input at)) (atEach queryTests (recordAt input at ∷ []) (recordsOf (drop (after input at) input))) tests)
+          subst Passes (tests-behind numbers (recordAt input at) refl refl at [] (recordsOf (drop (after input at) input)))
+          (passes-right (testsAt at (headTests (recordAt input at)))
+          (atEach queryTests at (recordAt input at ∷ []) (recordsOf (drop (after input at) input))) tests)
 
   -- and make the query
   pub query-read : queryOf (recordsOf (drop at input)) ≡ queryWith f (recordsOf (drop (f .rules) input))

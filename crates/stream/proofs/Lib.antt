@@ -20,3 +20,4 @@ pub mod Linking
 pub mod AcceptingBits
 pub mod Told
 pub mod OneAnswer
+pub mod FirstFault

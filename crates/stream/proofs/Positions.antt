@@ -11,10 +11,10 @@ use borrow.Author.Tests.{eq-eqb, eqb-true, ne-eqb}
 use lib.ListN.{drop, drop-of-length-le, getD, length, length-append, length-drop, length-take, take, take-append-drop}
 use lib.Seq.{drop-append-le, drop-cons, drop-at, drop-drop, getD-drop, getD-take, length-slice, length-take-le, slice-empty, take-at}
 use Rattle.paper.specs.Lists.{_∈_}
-use Rattle.paper.specs.Stream.{StreamRecord, bodyLength, number, recordsOf, recordsWithin, whole}
+use Rattle.paper.specs.Stream.{StreamRecord, behind, bodyLength, number, recordsOf, recordsWithin, whole}
 use Rattle.laws.specs.StreamCauses.{Begins, written}
 use Rattle.laws.proofs.Lists.{here}
-use Rattle.laws.proofs.StreamPlaces.{place-after, place-here, records-cons}
+use Rattle.laws.proofs.StreamPlaces.{behind-written, place-after, place-here, records-cons}
 use Rattle.stream.specs.Positions.{WholeBetween, after, recordAt, recordsBetween}
 
 -- ---- one record
@@ -139,6 +139,10 @@ module _ (input : List ℕ) (from to : ℕ) where
   pub bytes-between : WholeBetween input from to → from + length (written (recordsBetween input from to)) ≡ to
   bytes-between h =
       omega (arith, h .ordered, h .inside, simp length-append at (ap length (h .begins .split)), length-drop from input, length-drop to input)
+
+  -- so the next one stands where they end
+  pub behind-between : WholeBetween input from to → behind from (recordsBetween input from to) ≡ to
+  behind-between h = behind-written from (recordsBetween input from to) ∙ bytes-between h
 
 -- none at first
 pub whole-none : (input : List ℕ) (from : ℕ) → from ≤ length input → WholeBetween input from from

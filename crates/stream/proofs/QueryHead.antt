@@ -8,7 +8,7 @@ use borrow.Author.Tests.{eq-eqb, le-ltb, lt-ltb, ne-eqb}
 use lib.Dec.{eqb, leb, ltb}
 use lib.ListN.{getD, length}
 use Rattle.paper.specs.Query.{queryOf}
-use Rattle.paper.specs.Refusals.{answer, refused}
+use Rattle.paper.specs.Refusals.{answer, noAt, refused}
 use Rattle.paper.specs.Stream.{bodyLength, number, whole}
 use Rattle.stream.specs.OneRecord.{headReply}
 use Rattle.stream.specs.Positions.{recordAt}
@@ -17,7 +17,7 @@ use Rattle.stream.proofs.Positions.{cut-here, number-byte, records-here
 
 module _ (input : List ℕ) (at : ℕ) where
   -- the input ends there
-  pub no-record : length input ≤ at → refused 3 ≡ headReply input at
+  pub no-record : length input ≤ at → refused (noAt 3 at) ≡ headReply input at
   no-record h = rw (le-ltb at (length input) h) refl
 
   module _ (inside : at < length input) where
@@ -25,7 +25,7 @@ module _ (input : List ℕ) (at : ℕ) where
     stands = lt-ltb at (length input) inside
 
     -- another kind
-    pub no-head : (getD input at 0 ≡ 16 → ⊥) → refused 3 ≡ headReply input at
+    pub no-head : (getD input at 0 ≡ 16 → ⊥) → refused (noAt 3 at) ≡ headReply input at
     no-head h = rw (stands, ne-eqb (getD input at 0) 16 h) refl
 
     module _ (kind : getD input at 0 ≡ 16) where
@@ -36,7 +36,7 @@ module _ (input : List ℕ) (at : ℕ) where
       two-numbers = ap bodyLength kind
 
       -- a head that is cut
-      pub cut-head : length input < at + 1 + 2 → refused 3 ≡ headReply input at
+      pub cut-head : length input < at + 1 + 2 → refused (noAt 3 at) ≡ headReply input at
       cut-head h = rw (stands, is-head, cut-here input at inside (omega (arith, two-numbers))) refl
 
       module _ (fits : at + 1 + 2 ≤ length input) where
@@ -50,12 +50,12 @@ module _ (input : List ℕ) (at : ℕ) where
         states = number-byte input at 16 1 (at + 2) kind (omega arith) (omega arith)
 
         -- no arity from 1 to 4
-        pub arity-out : leb 1 (getD input (at + 1) 0) && leb (getD input (at + 1) 0) 4 ≡ false → refused 3 ≡ headReply input at
+        pub arity-out : leb 1 (getD input (at + 1) 0) && leb (getD input (at + 1) 0) 4 ≡ false → refused (noAt 3 at) ≡ headReply input at
         arity-out h = rw (stands, is-head, is-whole, arity, h) refl
 
         module _ (some-places : leb 1 (getD input (at + 1) 0) && leb (getD input (at + 1) 0) 4 ≡ true) where
           -- not 1 to 16 states
-          pub states-out : leb 1 (getD input (at + 2) 0) && leb (getD input (at + 2) 0) 16 ≡ false → refused 3 ≡ headReply input at
+          pub states-out : leb 1 (getD input (at + 2) 0) && leb (getD input (at + 2) 0) 16 ≡ false → refused (noAt 3 at) ≡ headReply input at
           states-out h = rw (stands, is-head, is-whole, arity, states, some-places, h) refl
 
           -- a head that passes

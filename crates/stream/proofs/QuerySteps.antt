@@ -11,7 +11,7 @@ use lib.Dec.{eqb, leb, ltb}
 use lib.ListN.{getD, length, length-append}
 use Rattle.paper.specs.Lists.{has}
 use Rattle.paper.specs.Query.{isRuleKind, rulesOf}
-use Rattle.paper.specs.Refusals.{Test, answer, inRange, isNew, refused, unless}
+use Rattle.paper.specs.Refusals.{No, StreamTest, Test, answer, inRange, isNew, noAt, refused, testsAt, unless}
 use Rattle.paper.specs.Stream.{StreamRecord, whole}
 use Rattle.laws.proofs.Lists.{both-true, only, or-right}
 use Rattle.laws.proofs.ReadQuery.{rules-append}
@@ -31,14 +31,14 @@ has-more f (x ∷ xs) r j =
 
 -- ---- a record that fits
 -- three tests in a row that give one number
-three-hold : {A : Type 0} (a b c : Bool) (n : ℕ) (ts : List Test) (x : A) → a && (b && c) ≡ true
+three-hold : {A : Type 0} (a b c : Bool) (n : No) (ts : List Test) (x : A) → a && (b && c) ≡ true
     → unless ((n, a) ∷ (n, b) ∷ (n, c) ∷ ts) x ≡ unless ts x
 three-hold a b c n ts x e =
     let p = both-true a (b && c) e in
     let q = both-true b c (p .1) in
     rw (p .0, q .0, q .1) refl
 
-one-fails : {A : Type 0} (a b c : Bool) (n : ℕ) (ts : List Test) (x : A) → a && (b && c) ≡ false
+one-fails : {A : Type 0} (a b c : Bool) (n : No) (ts : List Test) (x : A) → a && (b && c) ≡ false
     → unless ((n, a) ∷ (n, b) ∷ (n, c) ∷ ts) x ≡ refused n
 one-fails true true true n ts x e = absurd (true≢false e)
 one-fails true true false n ts x e = refl
@@ -56,21 +56,21 @@ module _ (input : List ℕ) (f : QueryFacts) (at : ℕ) where
   known = leb 17 (r .kind) && leb (r .kind) 19
 
   -- what is tested of a record that fits
-  abbrev newTests : List Test
+  abbrev newTests : List StreamTest
   newTests = (3, not (isRuleKind (r .kind)) || ltb (length (rulesOf before)) 1024) ∷ (4, isNew (queryWith f before) r) ∷ []
 
   -- 3: a record that does not fit
-  pub no-fit : fits f r ≡ false → refused 3 ≡ queryStep input f at
-  no-fit e = sym (one-fails known (whole r) (inRange (queryWith f before) r) 3 newTests (queryUpTo input f (after input at)) e)
+  pub no-fit : fits f r ≡ false → refused (noAt 3 at) ≡ queryStep input f at
+  no-fit e = sym (one-fails known (whole r) (inRange (queryWith f before) r) (noAt 3 at) (testsAt at newTests) (queryUpTo input f (after input at)) e)
 
   -- one that fits is left these tests
-  fit : fits f r ≡ true → queryStep input f at ≡ unless newTests (queryUpTo input f (after input at))
-  fit e = three-hold known (whole r) (inRange (queryWith f before) r) 3 newTests (queryUpTo input f (after input at)) e
+  fit : fits f r ≡ true → queryStep input f at ≡ unless (testsAt at newTests) (queryUpTo input f (after input at))
+  fit e = three-hold known (whole r) (inRange (queryWith f before) r) (noAt 3 at) (testsAt at newTests) (queryUpTo input f (after input at)) e
 
   -- ---- what the two tests say of one that fits
   decided : (a b : Bool) → fits f r ≡ true → not (isRuleKind (r .kind)) || ltb (length (rulesOf before)) 1024 ≡ a
-      → isNew (queryWith f before) r ≡ b → queryStep input f at ≡ unless ((3, a) ∷ (4, b) ∷ []) (queryUpTo input f (after input at))
-  decided a b e room new = fit e ∙ λ i. unless ((3, room i) ∷ (4, new i) ∷ []) (queryUpTo input f (after input at))
+      → isNew (queryWith f before) r ≡ b → queryStep input f at ≡ unless (testsAt at ((3, a) ∷ (4, b) ∷ [])) (queryUpTo input f (after input at))
+  decided a b e room new = fit e ∙ λ i. unless (testsAt at ((3, room i) ∷ (4, new i) ∷ [])) (queryUpTo input f (after input at))
 
 -- ---- the record's key looked up in the table, and put in
 pub record Looked (input : List ℕ) (f : QueryFacts) (s : QueryState) (said : List ℕ) (there : Bool) (said′ : List ℕ) : Type 0 where
@@ -116,7 +116,7 @@ module _ (input : List ℕ) (f : QueryFacts) (s : QueryState) (said : List ℕ) 
   room = not (isRuleKind (new .kind)) || ltb (length (rulesOf earlier)) 1024
 
   -- 3: it is one
-  pub many-rules : isRuleKind (getD input (s .at) 0) ≡ true → 1024 ≤ s .rules → refused 3 ≡ queryStep input f (s .at)
+  pub many-rules : isRuleKind (getD input (s .at) 0) ≡ true → 1024 ≤ s .rules → refused (noAt 3 (s .at)) ≡ queryStep input f (s .at)
   many-rules rule h =
       sym (decided input f (s .at) false _ (k .fitting) (rw (rule, le-ltb (length (rulesOf earlier)) 1024 (omega (arith, rules-so-far))) refl) refl)
 
@@ -140,7 +140,7 @@ module _ (input : List ℕ) (f : QueryFacts) (s : QueryState) (said : List ℕ) 
         ∙ ap not (sym (l .says .told ∙ ap (hasKey said) (l .its-key) ∙ k .table .keys (keyOf f new)))
 
     -- 4: its key was there
-    pub said-twice : room ≡ true → there ≡ true → refused 4 ≡ queryStep input f (s .at)
+    pub said-twice : room ≡ true → there ≡ true → refused (noAt 4 (s .at)) ≡ queryStep input f (s .at)
     said-twice free e = sym (decided input f (s .at) true false (k .fitting) free (is-new ∙ ap not e))
 
     -- it is new

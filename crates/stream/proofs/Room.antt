@@ -53,7 +53,7 @@ module _ (input : List ℕ) (at : ℕ) (f : QueryFacts) (e : answer f ≡ queryR
   query : ReadQuery (queryWith f (recordsOf (drop (f .rules) input)))
   query =
       subst ReadQuery (query-read input at f e)
-      (read.query-read (recordsOf (drop at input)) (answered (queryPart (recordsOf (drop at input))) (sym e) .0))
+      (read.query-read at (recordsOf (drop at input)) (answered (queryPart at (recordsOf (drop at input))) (sym e) .0))
 
   -- a query that is read ends so soon behind its head
   query-short : length input ≤ f .rules + mostBytes
@@ -71,5 +71,5 @@ module _ (input : List ℕ) (at : ℕ) (f : QueryFacts) (e : answer f ≡ queryR
   -- and behind a tree that is read it stands so early that its positions, and the end of the input, fit 16 bits
   pub query-listable : at ≤ 2 * 4095 → Listable input (f .rules)
   query-listable h =
-      let behind : at + 3 ≡ f .rules = ap (λ (g : QueryFacts). g .rules) (answered (queryPart (recordsOf (drop at input))) (sym e) .1) in
+      let behind : at + 3 ≡ f .rules = ap (λ (g : QueryFacts). g .rules) (answered (queryPart at (recordsOf (drop at input))) (sym e) .1) in
       (omega (arith, query-short), query-short)

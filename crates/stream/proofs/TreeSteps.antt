@@ -9,7 +9,7 @@ use borrow.Author.Tests.{eq-eqb, le-leb, le-ltb, lt-leb, lt-ltb, ltb-true, ne-eq
 use lib.Dec.{eqb, leb, ltb}
 use lib.ListN.{getD, length, length-append}
 use Rattle.paper.specs.Lists.{through}
-use Rattle.paper.specs.Refusals.{answer, refused}
+use Rattle.paper.specs.Refusals.{answer, noAt, refused}
 use Rattle.paper.specs.Stream.{StreamRecord, bodyLength, isTreeKind, number}
 use Rattle.paper.specs.Tree.{Tree, grow, join, leaf, mostFrom, mostUnjoined, unjoined}
 use Rattle.laws.specs.StreamCauses.{TreeKind}
@@ -99,7 +99,7 @@ module _ (input : List ℕ) (s : TreeState) (k : AtTreeRecord input s) where
   label = number-byte input (s .at) (getD input (s .at) 0) 0 (s .at + 1) refl (omega (arith, one-number)) (omega arith)
 
   -- 2: the 4,096th tree kind
-  pub many-nodes : 4095 ≤ s .nodes → refused 2 ≡ treeStep input (s .at)
+  pub many-nodes : 4095 ≤ s .nodes → refused (noAt 2 (s .at)) ≡ treeStep input (s .at)
   many-nodes h = rw (le-ltb (length before) 4095 (omega (arith, nodes))) refl
 
   module _ (few : s .nodes < 4095) where
@@ -107,12 +107,12 @@ module _ (input : List ℕ) (s : TreeState) (k : AtTreeRecord input s) where
     few-before = lt-ltb (length before) 4095 (omega (arith, nodes))
 
     -- 1: the input is cut in the record
-    pub cut-record : length input < after input (s .at) → refused 1 ≡ treeStep input (s .at)
+    pub cut-record : length input < after input (s .at) → refused (noAt 1 (s .at)) ≡ treeStep input (s .at)
     cut-record h = rw (few-before, cut-here input (s .at) inside h) refl
 
     module _ (fits : after input (s .at) ≤ length input) where
       -- 1: a label over 63
-      pub label-over : 63 < getD input (s .at + 1) 0 → refused 1 ≡ treeStep input (s .at)
+      pub label-over : 63 < getD input (s .at + 1) 0 → refused (noAt 1 (s .at)) ≡ treeStep input (s .at)
       label-over h = rw (few-before, whole-here input (s .at) fits, lt-leb (number (recordAt input (s .at)) 0) 63 (omega (arith, label))) refl
 
       module _ (low : getD input (s .at + 1) 0 ≤ 63) where
@@ -156,7 +156,7 @@ module _ (input : List ℕ) (s : TreeState) (k : AtTreeRecord input s) where
             ∙ passes (or-left (eqb (getD input (s .at) 0) 1) (leb 2 (length (unjoined before))) (eq-eqb (getD input (s .at) 0) 1 e))
 
         -- 1: a branch with fewer than two unjoined
-        pub few-unjoined : (getD input (s .at) 0 ≡ 1 → ⊥) → s .unjoined < 2 → refused 1 ≡ treeStep input (s .at)
+        pub few-unjoined : (getD input (s .at) 0 ≡ 1 → ⊥) → s .unjoined < 2 → refused (noAt 1 (s .at)) ≡ treeStep input (s .at)
         few-unjoined no-leaf h = rw (few-before, whole-here input (s .at) fits, low-label, none) refl
           where
             none : joins ≡ false

@@ -8,8 +8,8 @@ use lib.ListN.{length, getD, drop}
 use Rattle.paper.specs.Stream.{StreamRecord, whole, recordsOf, isTreeKind}
 use Rattle.paper.specs.Tree.{unjoined, mostUnjoined}
 use Rattle.paper.specs.Query.{Query, rulesOf, acceptingOf}
-use Rattle.paper.specs.Refusals.{Reply, refused, answer, unless, atEach, treeTests, headTests, laterTests, inRange}
-use Rattle.paper.specs.Answers.{numberOf}
+use Rattle.paper.specs.Refusals.{Reply, refused, answer, unless, testsAt, atEach, treeTests, headTests, laterTests, inRange}
+use Rattle.paper.specs.Answers.{noOf}
 use Rattle.stream.specs.Positions.{recordAt, after, recordsBetween, WholeBetween}
 use Rattle.stream.specs.Reading.{QueryFacts, queryFacts}
 pub use Rattle.stream.specs.declared.tree.TreeState.{TreeState}
@@ -35,11 +35,11 @@ treeUpTo input to = record {
 
 -- one more record
 abbrev pub treeStep : List ℕ → ℕ → Reply TreeState
-treeStep input at = unless (treeTests (recordsBetween input 0 at) (recordAt input at)) (treeUpTo input (after input at))
+treeStep input at = unless (testsAt at (treeTests (recordsBetween input 0 at) (recordAt input at))) (treeUpTo input (after input at))
 
 abbrev pub saysTreeStep : TreeStep → Reply TreeState
 saysTreeStep (TreeStepIs.Next s) = answer s
-saysTreeStep (TreeStepIs.Refused r) = refused (numberOf r)
+saysTreeStep (TreeStepIs.Refused r) = refused (noOf r)
 
 -- whole records up to a tree record, and the state that they make
 pub record AtTreeRecord (input : List ℕ) (s : TreeState) : Type 0 where
@@ -49,7 +49,7 @@ pub record AtTreeRecord (input : List ℕ) (s : TreeState) : Type 0 where
 
 -- ---- the head of the query
 abbrev pub headReply : List ℕ → ℕ → Reply QueryFacts
-headReply input at = unless ((3, ltb at (length input)) ∷ headTests (recordAt input at)) (queryFacts input at)
+headReply input at = unless (testsAt at ((3, ltb at (length input)) ∷ headTests (recordAt input at))) (queryFacts input at)
 
 -- ---- the records behind the head
 -- the query that the head and these records make
@@ -94,12 +94,12 @@ pub record AtLaterRecord (input : List ℕ) (f : QueryFacts) (s : QueryState) : 
 -- one more
 abbrev pub queryStep : List ℕ → QueryFacts → ℕ → Reply QueryState
 queryStep input f at =
-    unless (laterTests (queryWith f (recordsBetween input (f .rules) at)) (recordAt input at)) (queryUpTo input f (after input at))
+    unless (testsAt at (laterTests (queryWith f (recordsBetween input (f .rules) at)) (recordAt input at))) (queryUpTo input f (after input at))
 
 abbrev pub saysQueryStep : QueryStep → Reply QueryState
 saysQueryStep (QueryStepIs.Next s) = answer s
-saysQueryStep (QueryStepIs.Refused r) = refused (numberOf r)
+saysQueryStep (QueryStepIs.Refused r) = refused (noOf r)
 
 -- all of them, behind a head with these facts
 abbrev pub laterReply : List ℕ → QueryFacts → Reply QueryFacts
-laterReply input f = unless (atEach (λ before r. laterTests (queryWith f before) r) [] (recordsOf (drop (f .rules) input))) f
+laterReply input f = unless (atEach (λ before r. laterTests (queryWith f before) r) (f .rules) [] (recordsOf (drop (f .rules) input))) f

@@ -36,23 +36,23 @@ pub(crate) fn query_head(input: &[u8], at: usize) -> QueryRead
 {
     // A tree with no query.
     if input.len() <= at {
-        return QueryRead::Refused(Refusal::Query);
+        return QueryRead::Refused(Refusal::Query(at));
     }
     if input[at] != QUERY_HEAD {
-        return QueryRead::Refused(Refusal::Query);
+        return QueryRead::Refused(Refusal::Query(at));
     }
     // Cut. Behind this test both numbers can be read.
     let next = at + 1 + body_length(QUERY_HEAD);
     if input.len() < next {
-        return QueryRead::Refused(Refusal::Query);
+        return QueryRead::Refused(Refusal::Query(at));
     }
     let arity = input[at + 1] as usize;
     let states = input[at + 2] as usize;
     if !within(arity, 1, MOST_PLACES) {
-        return QueryRead::Refused(Refusal::Query);
+        return QueryRead::Refused(Refusal::Query(at));
     }
     if !within(states, 1, MOST_STATES) {
-        return QueryRead::Refused(Refusal::Query);
+        return QueryRead::Refused(Refusal::Query(at));
     }
     QueryRead::Query(QueryFacts {
         arity: arity,

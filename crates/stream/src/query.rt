@@ -45,13 +45,13 @@ fn rule_record(input: &[u8], facts: QueryFacts, state: QueryState, said: &mut [u
     ensures { λ r. ⌜ saysQueryStep r ≡ queryStep (now (input .entry)) facts (state .at) ⌝ }
     ensures { λ r. ⌜ TableAfter (now (input .entry)) facts r (now (said .exit)) ⌝ }
 {
-    if MOST_RULES <= state.rules {
-        return QueryStep::Refused(Refusal::Query);
-    }
     let at = state.at;
+    if MOST_RULES <= state.rules {
+        return QueryStep::Refused(Refusal::Query(at));
+    }
     let key = rule_key(input, facts, at);
     if say(&mut *said, key) {
-        return QueryStep::Refused(Refusal::Twice);
+        return QueryStep::Refused(Refusal::Twice(at));
     }
     QueryStep::Next(QueryState {
         at: at + 1 + body_length(input[at]),
@@ -69,7 +69,7 @@ fn state_record(input: &[u8], facts: QueryFacts, state: QueryState, said: &mut [
     let at = state.at;
     let key = state_key(input, facts, at);
     if say(&mut *said, key) {
-        return QueryStep::Refused(Refusal::Twice);
+        return QueryStep::Refused(Refusal::Twice(at));
     }
     QueryStep::Next(QueryState {
         at: at + 1 + body_length(ACCEPTING_STATE),
@@ -87,7 +87,7 @@ fn query_record(input: &[u8], facts: QueryFacts, state: QueryState, said: &mut [
 {
     let at = state.at;
     if !record_fits(input, facts, at) {
-        return QueryStep::Refused(Refusal::Query);
+        return QueryStep::Refused(Refusal::Query(at));
     }
     // What fits and is no accepting state is a rule of either kind.
     if input[at] == ACCEPTING_STATE {

@@ -64,14 +64,14 @@ fn tree_record(input: &[u8], state: TreeState) -> TreeStep
     let kind = input[at];
     let next = at + 1 + body_length(kind);
     if MOST_NODES <= state.nodes {
-        return TreeStep::Refused(Refusal::ManyNodes);
+        return TreeStep::Refused(Refusal::ManyNodes(at));
     }
     // Cut. Behind this test the label can be read.
     if input.len() < next {
-        return TreeStep::Refused(Refusal::Tree);
+        return TreeStep::Refused(Refusal::Tree(at));
     }
     if HIGHEST_LABEL < input[at + 1] {
-        return TreeStep::Refused(Refusal::Tree);
+        return TreeStep::Refused(Refusal::Tree(at));
     }
     // A leaf joins nothing, so no more is asked of it; and only with a leaf can the most grow.
     if kind == LEAF {
@@ -85,7 +85,7 @@ fn tree_record(input: &[u8], state: TreeState) -> TreeStep
     }
     // A branch makes one subtree of the last two.
     if state.unjoined < 2 {
-        return TreeStep::Refused(Refusal::Tree);
+        return TreeStep::Refused(Refusal::Tree(at));
     }
     TreeStep::Next(TreeState {
         at: next,
@@ -119,7 +119,7 @@ pub fn read_tree(input: &[u8]) -> TreeRead
     }
     // With no node there is no subtree, so one subtree at the end is all that is asked here.
     if state.unjoined != 1 {
-        return TreeRead::Refused(Refusal::Tree);
+        return TreeRead::Refused(Refusal::Tree(state.at));
     }
     TreeRead::Tree(TreeFacts {
         end: state.at,

@@ -19,11 +19,17 @@ use Rattle.writings.proofs.Texts.{one-tree}
 use Rattle.tarnsatchel.specs.Told.{TellsBuild, TellsConversion, TellsCount, TellsFix, TellsMember, TellsProject, TellsRow, TellsText, TellsTree, answerAfter, code}
 
 module _ (work : List ℕ) (r s : ℕ) (work₁ work₂ : List ℕ) where
-  pub one-build : (input : List ℕ) (table table₁ table₂ : List Record) (head head₁ head₂ : List ℕ)
-      → TellsBuild input work table head r work₁ table₁ head₁ → TellsBuild input work table head s work₂ table₂ head₂
-      → (r ≡ s) × (work₁ ≡ work₂) × (table₁ ≡ table₂) × (head₁ ≡ head₂)
-  one-build input table table₁ table₂ head head₁ head₂ a b =
-      (a .number ∙ sym (b .number), a .worked ∙ sym (b .worked), a .written ∙ sym (b .written), a .shown ∙ sym (b .shown))
+  pub one-build : (input : List ℕ) (table table₁ table₂ : List Record) (head head₁ head₂ : List ℕ) (position position₁ position₂ : ℕ)
+      → TellsBuild input work table head position r work₁ table₁ head₁ position₁
+      → TellsBuild input work table head position s work₂ table₂ head₂ position₂
+      → (r ≡ s) × (work₁ ≡ work₂) × (table₁ ≡ table₂) × (head₁ ≡ head₂) × (position₁ ≡ position₂)
+  one-build input table table₁ table₂ head head₁ head₂ position position₁ position₂ a b = (
+    a .number ∙ sym (b .number),
+    a .worked ∙ sym (b .worked),
+    a .written ∙ sym (b .written),
+    a .shown ∙ sym (b .shown),
+    a .placed ∙ sym (b .placed),
+  )
 
   module _ (head : List ℕ) (table : List Record) where
     pub one-count : (rows rows₁ rows₂ : ℕ) → TellsCount head table work rows r work₁ rows₁ → TellsCount head table work rows s work₂ rows₂

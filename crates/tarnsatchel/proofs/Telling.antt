@@ -1,6 +1,7 @@
 -- What a function of the library answers and leaves, with its answer told, is what a call from C is told.
 -- First what is told of any reply, then each function in turn.
 use mathlib.Core.List.{List}
+use mathlib.Core.Option.{Option·none-ne-some, Option·some-injective, none, some}
 use mathlib.Core.Path.{_∙_, _≡_, ap, refl, sym}
 use Prim.Native.Nat.{ℕ}
 use lib.ListN.{length}
@@ -13,7 +14,7 @@ use Rattle.paper.specs.declared.Projected.{Projected}
 use Rattle.paper.specs.declared.Record.{Record}
 use Rattle.paper.specs.declared.Written.{Written}
 use Rattle.paper.specs.Answers.{saysBuilt, saysConverted, saysCounted, saysFixed, saysMember, saysProjected, saysWritten, told}
-use Rattle.paper.specs.Refusals.{Reply, answer, build, fix, project, refused, rowByNumber}
+use Rattle.paper.specs.Refusals.{No, Reply, answer, build, fix, no, noAt, numberIn, positionIn, project, refused, rowByNumber}
 use Rattle.paper.specs.Row.{Row}
 use Rattle.building.specs.Face.{Builds}
 use Rattle.fix.specs.Face.{Fixes}
@@ -23,7 +24,7 @@ use Rattle.row.specs.Face.{Numbers}
 use Rattle.sound.specs.Face.{Counts}
 use Rattle.text.specs.Face.{Converts}
 use Rattle.tarnsatchel.specs.Told.{Tells, TellsBuild, TellsConversion, TellsCount, TellsFix, TellsMember, TellsProject, TellsRow}
-use Rattle.tarnsatchel.specs.Told.{answerAfter, code, headNumbers, headOf, listedNumber}
+use Rattle.tarnsatchel.specs.Told.{TellsWhere, answerAfter, code, headNumbers, headOf, listedNumber, positionAfter, positionOr}
 
 -- an answer that is told
 pub tells-answer : {A : Type 0} {reply : Reply A} {a new : A} (old : A) → reply ≡ answer a → new ≡ a → Tells reply old 0 new
@@ -37,16 +38,44 @@ told-told : {A B C : Type 0} (g : B → C) (f : A → B) (x : Reply A) → told 
 told-told g f (refused n) = refl
 told-told g f (answer a) = refl
 
-pub tells-build : (input work : List ℕ) (table : List Record) (head : List ℕ) (b : Built) (r : ℕ) (work′ : List ℕ) (table′ : List Record) (head′ : List ℕ)
-    → Builds input work table b work′ table′ → Tells (told headNumbers (saysBuilt b)) head r head′ → TellsBuild input work table head r work′ table′ head′
-tells-build input work table head b r work′ table′ head′ builds tells =
+position-told : {A B : Type 0} (f : A → B) (x : Reply A) (old : ℕ) → positionAfter (told f x) old ≡ positionAfter x old
+position-told f (refused w) old = refl
+position-told f (answer a) old = refl
+
+-- a position that is said, and none
+pub position-said : (w : No) {p : ℕ} (old : ℕ) → some p ≡ positionIn w → p ≡ positionOr w old
+position-said (no n) {p} old e = absurd (Option·none-ne-some p (sym e))
+position-said (noAt n q) {p} old e = Option·some-injective p q e
+
+pub none-said : (w : No) (old : ℕ) → none ≡ positionIn w → old ≡ positionOr w old
+none-said (no n) old e = refl
+none-said (noAt n q) old e = absurd (Option·none-ne-some q e)
+
+-- a refusal, and an answer
+pub tells-refused : {A : Type 0} {reply : Reply A} {w : No} {r position′ : ℕ} (old : A) (position : ℕ) → reply ≡ refused w → r ≡ numberIn w
+    → position′ ≡ positionOr w position → TellsWhere reply old position r old position′
+tells-refused old position e n p = record {
+  tells = record { number = n ∙ sym (ap code e); shown = sym (ap (λ x. answerAfter x old) e) };
+  placed = p ∙ sym (ap (λ x. positionAfter x position) e);
+}
+
+pub tells-built : {A : Type 0} {reply : Reply A} {a new : A} (old : A) (position : ℕ) → reply ≡ answer a → new ≡ a
+    → TellsWhere reply old position 0 new position
+tells-built old position e f = record { tells = tells-answer old e f; placed = sym (ap (λ x. positionAfter x position) e) }
+
+pub tells-build : (input work : List ℕ) (table : List Record) (head : List ℕ) (position : ℕ) (b : Built) (r : ℕ) (work′ : List ℕ)
+    (table′ : List Record) (head′ : List ℕ) (position′ : ℕ)
+    → Builds input work table b work′ table′ → TellsWhere (told headNumbers (saysBuilt b)) head position r head′ position′
+    → TellsBuild input work table head position r work′ table′ head′ position′
+tells-build input work table head position b r work′ table′ head′ position′ builds where-told =
     let reply = build input (length work) (length table) in
     let says = ap (told headNumbers) (builds .answer) ∙ told-told headNumbers (λ a. a .0) reply in
     record {
-      number = tells .number ∙ ap code says ∙ code-told (λ a. headNumbers (a .0)) reply;
+      number = where-told .tells .number ∙ ap code says ∙ code-told (λ a. headNumbers (a .0)) reply;
       worked = builds .worked;
       written = builds .written;
-      shown = tells .shown ∙ ap (λ x. answerAfter x head) says;
+      shown = where-told .tells .shown ∙ ap (λ x. answerAfter x head) says;
+      placed = where-told .placed ∙ ap (λ x. positionAfter x position) says ∙ position-told (λ a. headNumbers (a .0)) reply position;
     }
 
 -- text to tree, and tree to text

@@ -1,4 +1,5 @@
--- What a call from C is told: a number; the head, which C holds as six numbers; an answer in an out parameter; and what the lent buffers hold.
+-- What a call from C is told: a number; the head, which C holds as six numbers; an answer or a position in an out parameter; and what the
+-- lent buffers hold.
 -- First the head's six numbers, then a reply as C gets it, then a record for each exported function.
 use mathlib.Core.Bool.{Bool, cond}
 use mathlib.Core.List.{List, [], _∷_}
@@ -13,7 +14,7 @@ use Rattle.paper.specs.declared.Set.the-variants.{Empty, Unit, Record as At}
 use Rattle.paper.specs.Answers.{told}
 use Rattle.paper.specs.Conversions.{TreeReply, TextReply}
 use Rattle.paper.specs.Questions.{questionWork}
-use Rattle.paper.specs.Refusals.{Reply, refused, answer, build, count, rowByNumber, member, project, fix}
+use Rattle.paper.specs.Refusals.{No, no, noAt, numberIn, Reply, refused, answer, build, count, rowByNumber, member, project, fix}
 use Rattle.paper.specs.Refusals.{workFor, workAfter, tableAfter, outputAfter, targetAfter}
 use Rattle.paper.specs.Row.{Row}
 
@@ -52,13 +53,22 @@ headOf numbers = record {
 -- ---- a reply
 -- 0, or the number that says no
 abbrev pub code : {A : Type 0} → Reply A → ℕ
-code (refused n) = n
+code (refused w) = numberIn w
 code (answer a) = 0
 
 -- an out parameter: the answer, or what was there
 abbrev pub answerAfter : {A : Type 0} → Reply A → A → A
-answerAfter (refused n) old = old
+answerAfter (refused w) old = old
 answerAfter (answer a) old = a
+
+-- the out parameter for a position: that of a refusal, or what was there
+abbrev pub positionOr : No → ℕ → ℕ
+positionOr (no n) old = old
+positionOr (noAt n p) old = p
+
+abbrev pub positionAfter : {A : Type 0} → Reply A → ℕ → ℕ
+positionAfter (refused w) old = positionOr w old
+positionAfter (answer a) old = old
 
 -- 1 for a row that is listed, 0 for one that is not
 abbrev pub listedNumber : Bool → ℕ
@@ -69,13 +79,19 @@ pub record Tells {A : Type 0} (reply : Reply A) (old : A) (r : ℕ) (new : A) : 
   pub number : r ≡ code reply
   pub shown : new ≡ answerAfter reply old
 
+-- and of one with a second for its position
+pub record TellsWhere {A : Type 0} (reply : Reply A) (old : A) (position r : ℕ) (new : A) (position′ : ℕ) : Type 0 where
+  pub tells : Tells reply old r new
+  pub placed : position′ ≡ positionAfter reply position
+
 -- ---- the exported functions. In each, what is lent as it is before, the number returned, and what is lent as it is after
-pub record TellsBuild (input work : List ℕ) (table : List Record) (head : List ℕ) (r : ℕ) (work′ : List ℕ) (table′ : List Record) (head′ : List ℕ)
-    : Type 0 where
+pub record TellsBuild (input work : List ℕ) (table : List Record) (head : List ℕ) (position r : ℕ) (work′ : List ℕ) (table′ : List Record)
+    (head′ : List ℕ) (position′ : ℕ) : Type 0 where
   pub number : r ≡ code (build input (length work) (length table))
   pub worked : work′ ≡ workAfter (build input (length work) (length table)) (workFor input) work
   pub written : table′ ≡ tableAfter (build input (length work) (length table)) table
   pub shown : head′ ≡ answerAfter (told (λ a. headNumbers (a .0)) (build input (length work) (length table))) head
+  pub placed : position′ ≡ positionAfter (build input (length work) (length table)) position
 
 pub record TellsCount (head : List ℕ) (table : List Record) (work : List ℕ) (rows : ℕ) (r : ℕ) (work′ : List ℕ) (rows′ : ℕ) : Type 0 where
   pub number : r ≡ code (count (headOf head) table (length work))

@@ -2,8 +2,8 @@
 // name; then the head's six numbers read and written; then each answer as a number. Nothing is decided here but how an answer looks
 // from C, so each contract is that of the function below it, told in numbers (specs/Told.antt).
 ghost use mathlib.Core.Path.{_≡_};
-ghost use Rattle.paper.specs.Answers.{told, saysBuilt, saysConverted, saysCounted, saysFixed, saysMember, saysProjected, saysWritten};
-ghost use Rattle.tarnsatchel.specs.Told.{setKind, setRecord, headNumbers, setOf, headOf, code, listedNumber, Tells};
+ghost use Rattle.paper.specs.Answers.{noOf, told, saysBuilt, saysConverted, saysCounted, saysFixed, saysMember, saysProjected, saysWritten};
+ghost use Rattle.tarnsatchel.specs.Told.{setKind, setRecord, headNumbers, setOf, headOf, code, listedNumber, positionOr, Tells, TellsWhere};
 ghost use Rattle.tarnsatchel.specs.Told.{TellsBuild, TellsCount, TellsRow, TellsMember, TellsProject, TellsFix, TellsText, TellsTree};
 use paper::Built;
 use paper::Converted;
@@ -11,32 +11,36 @@ use paper::Counted;
 use paper::Fixed;
 use paper::Head;
 use paper::Member;
+use paper::Position;
 use paper::Projected;
 use paper::Record;
+use paper::Refusal;
 use paper::Set;
 use paper::Written;
 
 // A head goes to C as so many numbers: nodes, arity, open places, records used, the kind of the set, its record.
 const HEAD_NUMBERS: usize = 6;
 
-// In every function: 0 is returned with an answer, else the refusal's number, and then an out parameter is as it was. From C a slice is
+// In every function: 0 is returned with an answer, else the refusal's number, and then an out parameter is as it was, but for the position
+// of a build. From C a slice is
 // a pointer and how many elements stand behind it, and an array or a number that is lent is a pointer. That so many elements are there,
 // and that none is lent twice at once, is all that is asked of a caller (docs/PROMISES.md, 'What is believed').
 
-// Builds the set of a stream; `head` is its head's numbers. They are written with an answer only: a refusal is its number and
-// nothing else.
+// Builds the set of a stream; `head` is its head's numbers, written with an answer only. `position` is written with refusals 1 to 4 only:
+// the byte position of what is at fault.
 #[no_mangle]
 pub extern "C" fn tarn_build(
     input: &[u8],
     work: &mut [u64],
     table: &mut [Record],
     head: &mut [u16; HEAD_NUMBERS],
+    position: &mut usize,
 ) -> u8
-    ensures { λ r. ⌜ TellsBuild (now (input .entry)) (now (work .entry)) (now (table .entry)) (now (head .entry)) r
-        (now (work .exit)) (now (table .exit)) (now (head .exit)) ⌝ }
+    ensures { λ r. ⌜ TellsBuild (now (input .entry)) (now (work .entry)) (now (table .entry)) (now (head .entry)) (now (position .entry)) r
+        (now (work .exit)) (now (table .exit)) (now (head .exit)) (now (position .exit)) ⌝ }
 {
     let built = building::build(input, work, table);
-    tell_build(built, head)
+    tell_build(built, head, position)
 }
 
 // `rows` is how many rows are listed. The head is not trusted: it is read as any six numbers are, and tested with the table.
@@ -209,15 +213,29 @@ fn set_record(set: Set) -> u16
 // ---- each answer as a number, with what is written in its out parameter
 
 // The refusal's number is above 0 for every refusal, so 0 is free to say that there is an answer.
-fn tell_build(built: Built, head: &mut [u16; HEAD_NUMBERS]) -> u8
-    ensures { λ n. ⌜ Tells (told headNumbers (saysBuilt built)) (now (head .entry)) n (now (head .exit)) ⌝ }
+fn tell_build(built: Built, head: &mut [u16; HEAD_NUMBERS], position: &mut usize) -> u8
+    ensures { λ n. ⌜ TellsWhere (told headNumbers (saysBuilt built)) (now (head .entry)) (now (position .entry)) n
+        (now (head .exit)) (now (position .exit)) ⌝ }
 {
     match built {
-        Built::Refused(r) => r.number(),
+        Built::Refused(r) => {
+            *position = position_after(r, *position);
+            r.number()
+        }
         Built::Set(h) => {
             *head = numbers_of(h);
             0
         }
+    }
+}
+
+// The position of a refusal that has one, or what was there.
+fn position_after(why: Refusal, old: usize) -> usize
+    ensures { λ p. ⌜ p ≡ positionOr (noOf why) old ⌝ }
+{
+    match why.position() {
+        Position::At(at) => at,
+        Position::None => old,
     }
 }
 

@@ -11,7 +11,7 @@ use Rattle.paper.specs.declared.Refusal.the-variants as RefusalIs
 use Rattle.paper.specs.CanonicalText.{textOf}
 use Rattle.paper.specs.Conversions.{Images, no-room, of-none, the-result}
 use Rattle.paper.specs.Image.{imageBytes}
-use Rattle.paper.specs.Refusals.{answer, over, refused}
+use Rattle.paper.specs.Refusals.{answer, over, refused, no}
 use Rattle.paper.specs.WrittenTree.{WrittenTree}
 use Rattle.writings.proofs.Images.{image-read}
 use Rattle.text.specs.Face.{MakesText}
@@ -28,7 +28,7 @@ images-accepted bytes w I =
 pub image-refused : (bytes out : List ℕ) → acceptsImage (imageJudged nothingRead bytes) ≡ false
     → MakesText bytes out (ConvertedIs.Refused RefusalIs.Text) out
 image-refused bytes out e = record {
-  reply = refused 15;
+  reply = refused (no 15);
   right = of-none (λ w I. false≢true (sym e ∙ images-accepted bytes w I));
   answer = refl;
   written = refl;
@@ -40,7 +40,7 @@ module _ (bytes : List ℕ) (start : ℕ) (text : List ℕ) (W : WritesText byte
 
   pub short-refused : length out < 8188 - start → MakesText bytes out (ConvertedIs.Refused RefusalIs.ShortOutput) out
   short-refused short = record {
-    reply = refused 10;
+    reply = refused (no 10);
     right = no-room (W .images) (omega (arith, text-length));
     answer = refl;
     written = refl;

@@ -15,7 +15,7 @@ use Rattle.paper.specs.declared.Refusal.the-variants as RefusalIs
 use Rattle.paper.specs.BracketedText.{Writes}
 use Rattle.paper.specs.Conversions.{no-room, of-none, the-result}
 use Rattle.paper.specs.Image.{imageBytes}
-use Rattle.paper.specs.Refusals.{answer, over, refused}
+use Rattle.paper.specs.Refusals.{answer, over, refused, no}
 use Rattle.paper.specs.WrittenTree.{WrittenTree}
 use Rattle.laws.proofs.Lists.{both-true}
 use Rattle.writings.specs.ReadText.{readText}
@@ -52,7 +52,7 @@ module _ (text : List ℕ) (s : Reading) (labels image : List ℕ) (e : Ends tex
           ap atEnd (state-refused s labels image over-all)
 
   pub text-refused : (out : List ℕ) → false ≡ whole → MakesTree text out (ConvertedIs.Refused RefusalIs.Text) out
-  text-refused out h = record { reply = refused 15; right = of-none never; answer = refl; written = refl }
+  text-refused out h = record { reply = refused (no 15); right = of-none never; answer = refl; written = refl }
     where
       never : (w : WrittenTree) → Writes text w → ⊥
       never w g =
@@ -94,7 +94,7 @@ module _ (text : List ℕ) (s : Reading) (labels image : List ℕ) (e : Ends tex
     -- ---- the answers
     pub output-short : (out : List ℕ) → length out < r .bytes → MakesTree text out (ConvertedIs.Refused RefusalIs.ShortOutput) out
     output-short out short = record {
-      reply = refused 10;
+      reply = refused (no 10);
       right = no-room (the-tree .writes) (omega (arith, image-long));
       answer = refl;
       written = refl;

@@ -8,35 +8,35 @@ use lib.Seq.{take-at}
 use Rattle.paper.specs.declared.Converted.{Converted}
 use Rattle.paper.specs.declared.Converted.the-variants as ConvertedIs
 use Rattle.paper.specs.declared.Refusal.{Refusal}
-use Rattle.paper.specs.Answers.{numberOf, saysConverted, told}
+use Rattle.paper.specs.Answers.{noOf, saysConverted, told}
 use Rattle.paper.specs.Conversions.{TreeReply, no-room, of-none, the-result}
 use Rattle.paper.specs.Image.{imageBytes}
-use Rattle.paper.specs.Refusals.{Reply, answer, outputAfter, refused}
+use Rattle.paper.specs.Refusals.{No, Reply, answer, outputAfter, refused}
 use Rattle.laws.proofs.Replies.{answer-inj, refused-inj, refused-not-answer}
 use Rattle.writings.proofs.ImageTrees.{image-short}
 use Rattle.writings.proofs.Texts.{one-tree, writes-allowed}
 use Rattle.text.specs.Face.{MakesTree}
-use Rattle.lines.specs.Put.{putFact}
-use Rattle.lines.specs.Text.{factText, refusedWord}
-use Rattle.lines.proofs.Putting.{fact-short, puts-fact}
+use Rattle.lines.specs.Put.{putRefusal}
+use Rattle.lines.specs.Text.{refusalText}
+use Rattle.lines.proofs.Putting.{puts-refusal, refusal-short}
 use Rattle.tree.specs.Telling.{Stands, Tells, longestImage, longestInput}
 use Rattle.tree.specs.Telling as T
 
 -- the line of a refusal stands in an output that is long enough
-pub line-stands : (input : List ℕ) (n : ℕ) → Tells input (factText refusedWord n) → (out : List ℕ) → length out ≡ longestImage
-    → {end : ℕ} {out′ : List ℕ} → length out′ ≡ longestImage → putFact refusedWord n (0, out) ≡ (end, out′) → Stands input end out′
+pub line-stands : (input : List ℕ) (n : No) → Tells input (refusalText n) → (out : List ℕ) → length out ≡ longestImage
+    → {end : ℕ} {out′ : List ℕ} → length out′ ≡ longestImage → putRefusal n (0, out) ≡ (end, out′) → Stands input end out′
 line-stands input n tells out long {end} {out′} long′ e =
-    let short = fact-short refusedWord n in
-    let put = puts-fact refusedWord n 0 out (omega (arith, short, long)) e in record {
+    let short = refusal-short n in
+    let put = puts-refusal n 0 out (omega (arith, short, long)) e in record {
       within = omega (arith, put .ends, short, long′);
       tells = subst (Tells input) (sym (put .stands)) tells;
     }
 
 module _ (input out : List ℕ) (short : length input ≤ longestInput) (long : length out ≡ longestImage) where
   -- a refusal is 15
-  reply-refused : (reply : Reply (List ℕ)) → TreeReply input (length out) reply → (n : ℕ) → refused n ≡ told length reply
-      → Tells input (factText refusedWord n)
-  reply-refused _ (of-none none) n e = subst (λ (m : ℕ). Tells input (factText refusedWord m)) (sym (refused-inj e)) (T.no-writing short none)
+  reply-refused : (reply : Reply (List ℕ)) → TreeReply input (length out) reply → (n : No) → refused n ≡ told length reply
+      → Tells input (refusalText n)
+  reply-refused _ (of-none none) n e = subst (λ (m : No). Tells input (refusalText m)) (sym (refused-inj e)) (T.no-writing short none)
   reply-refused _ (no-room {w} h full) n e = absurd (omega (arith, image-short w (writes-allowed input w h), full, long))
   reply-refused _ (the-result h fits) n e = absurd (refused-not-answer e)
 
@@ -54,8 +54,8 @@ module _ (input out : List ℕ) (short : length input ≤ longestInput) (long : 
       }
 
   module _ (r : Converted) (out′ : List ℕ) (M : MakesTree input out r out′) where
-    pub refused-tells : (why : Refusal) → r ≡ ConvertedIs.Refused why → Tells input (factText refusedWord (numberOf why))
-    refused-tells why e = reply-refused (M .reply) (M .right) (numberOf why) (sym (ap saysConverted e) ∙ M .answer)
+    pub refused-tells : (why : Refusal) → r ≡ ConvertedIs.Refused why → Tells input (refusalText (noOf why))
+    refused-tells why e = reply-refused (M .reply) (M .right) (noOf why) (sym (ap saysConverted e) ∙ M .answer)
 
     pub answered-stands : (n : ℕ) → r ≡ ConvertedIs.Bytes n → length out′ ≡ longestImage → Stands input n out′
     answered-stands n e long′ = reply-answered (M .reply) (M .right) n (sym (ap saysConverted e) ∙ M .answer) out′ long′ (M .written)

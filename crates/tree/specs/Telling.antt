@@ -5,7 +5,8 @@ use lib.ListN.{length, take}
 use Rattle.paper.specs.BracketedText.{Writes}
 use Rattle.paper.specs.Image.{imageBytes}
 use Rattle.paper.specs.WrittenTree.{WrittenTree}
-use Rattle.lines.specs.Text.{factText, refusedWord}
+use Rattle.paper.specs.Refusals.{no}
+use Rattle.lines.specs.Text.{refusalText}
 
 -- the program's own limit
 abbrev pub longestInput : ℕ
@@ -17,8 +18,8 @@ longestImage = 8190
 
 -- 14 before all, of an input that is too long; 15, of a text that is no writing of a tree; else the bytes of the tree's image
 pub data Tells (input : List ℕ) : List ℕ → Type 0 where
-  too-long : longestInput < length input → Tells input (factText refusedWord 14)
-  no-writing : length input ≤ longestInput → ((w : WrittenTree) → Writes input w → ⊥) → Tells input (factText refusedWord 15)
+  too-long : longestInput < length input → Tells input (refusalText (no 14))
+  no-writing : length input ≤ longestInput → ((w : WrittenTree) → Writes input w → ⊥) → Tells input (refusalText (no 15))
   the-records : {w : WrittenTree} → length input ≤ longestInput → Writes input w → Tells input (imageBytes w)
 
 -- what is told stands in the first bytes of the output

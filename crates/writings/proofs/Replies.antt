@@ -14,7 +14,7 @@ use Rattle.paper.specs.BracketedText.{Writes}
 use Rattle.paper.specs.CanonicalText.{textOf}
 use Rattle.paper.specs.Conversions.{Conversion, Images, TextReply, TreeReply, no-room, of-none, the-result}
 use Rattle.paper.specs.Image.{imageBytes}
-use Rattle.paper.specs.Refusals.{Reply, refused, answer}
+use Rattle.paper.specs.Refusals.{Reply, refused, answer, no}
 use Rattle.paper.specs.WrittenTree.{WrittenTree}
 use Rattle.writings.specs.Calls.{replied, treeOfText, textOfTree}
 use Rattle.writings.specs.Cases.{Call, cases, reply, toText, toTree, worked}
@@ -47,7 +47,7 @@ module _ (Of : WrittenTree → Type 0) (result : WrittenTree → List ℕ) (read
   right-reply = go read refl
     where
       sized : (w : WrittenTree) → Of w → (p : Bool) → leb (length (result w)) room ≡ p
-          → Conversion Of result room (cond p (answer (result w)) (refused 10))
+          → Conversion Of result room (cond p (answer (result w)) (refused (no 10)))
       sized w g true e = the-result g (leb-true (length (result w)) room e)
       sized w g false e = no-room g (leb-false (length (result w)) room e)
 

@@ -7,14 +7,14 @@ use lib.Dec.{leb}
 use lib.ListN.{length}
 use Rattle.paper.specs.CanonicalText.{textOf}
 use Rattle.paper.specs.Image.{imageBytes}
-use Rattle.paper.specs.Refusals.{Reply, refused, answer}
+use Rattle.paper.specs.Refusals.{Reply, refused, answer, no}
 use Rattle.writings.specs.ReadImage.{readImage}
 use Rattle.writings.specs.ReadText.{readText}
 
 -- 15 for no result, 10 for one that is longer than the output
 abbrev pub replied : ℕ → Option (List ℕ) → Reply (List ℕ)
-replied room none = refused 15
-replied room (some bytes) = cond (leb (length bytes) room) (answer bytes) (refused 10)
+replied room none = refused (no 15)
+replied room (some bytes) = cond (leb (length bytes) room) (answer bytes) (refused (no 10))
 
 abbrev pub treeOfText : List ℕ → ℕ → Reply (List ℕ)
 treeOfText text room = replied room (Option·map imageBytes (readText text))

@@ -5,7 +5,7 @@ use mathlib.Core.List.{List, [], _∷_, _++_, map}
 use Prim.Native.Nat.{ℕ}
 use Rattle.paper.specs.Stream.{recordsOf}
 use Rattle.paper.specs.Tree.{leaf, branch, unjoined}
-use Rattle.paper.specs.Refusals.{Reply, refused, answer}
+use Rattle.paper.specs.Refusals.{Reply, refused, answer, no}
 use Rattle.writings.specs.Calls.{treeOfText, textOfTree}
 
 -- `9(5 6)`, and its records: pads 0, 1, 2, branch 6 as node 3, branch 5 as node 4, pad 5, branch 9 as node 6
@@ -42,38 +42,38 @@ reply (toText bytes room) = textOfTree bytes room
 abbrev pub cases : List (Call × Reply (List ℕ))
 cases =
     (toTree nine 14, answer nineTree)
-    ∷ (toTree nine 13, refused 10)
+    ∷ (toTree nine 13, refused (no 10))
     ∷ (toTree nineTyped 8190, answer nineTree)
     -- a line end between two numbers and behind the root: `9(5`, line end, `6)`, line end
     ∷ (toTree (57 ∷ 40 ∷ 53 ∷ 10 ∷ 54 ∷ 41 ∷ 10 ∷ []) 14, answer nineTree)
     ∷ (toText nineTree 6, answer nine)
-    ∷ (toText nineTree 5, refused 10)
+    ∷ (toText nineTree 5, refused (no 10))
     -- `0()` is `0`
     ∷ (toTree (48 ∷ 40 ∷ 41 ∷ []) 6, answer (1 ∷ 0 ∷ 1 ∷ 0 ∷ 2 ∷ 0 ∷ []))
     ∷ (toText (1 ∷ 0 ∷ 1 ∷ 0 ∷ 2 ∷ 0 ∷ []) 1, answer (48 ∷ []))
     ∷ (toTree deeper 22, answer deeperTree)
     ∷ (toText deeperTree 12, answer deeper)
     -- nothing, `05`, `64`, `5 5`, `5(`, `5)`, `()`, `5()()`, `5/6`, a tab, a comment alone; 15 before 10
-    ∷ (toTree [] 0, refused 15)
-    ∷ (toTree (48 ∷ 53 ∷ []) 8190, refused 15)
-    ∷ (toTree (54 ∷ 52 ∷ []) 8190, refused 15)
-    ∷ (toTree (53 ∷ 32 ∷ 53 ∷ []) 8190, refused 15)
-    ∷ (toTree (53 ∷ 40 ∷ []) 8190, refused 15)
-    ∷ (toTree (53 ∷ 41 ∷ []) 8190, refused 15)
-    ∷ (toTree (40 ∷ 41 ∷ []) 8190, refused 15)
-    ∷ (toTree (53 ∷ 40 ∷ 41 ∷ 40 ∷ 41 ∷ []) 8190, refused 15)
-    ∷ (toTree (53 ∷ 47 ∷ 54 ∷ []) 8190, refused 15)
-    ∷ (toTree (53 ∷ 9 ∷ []) 8190, refused 15)
-    ∷ (toTree (33 ∷ 53 ∷ []) 8190, refused 15)
+    ∷ (toTree [] 0, refused (no 15))
+    ∷ (toTree (48 ∷ 53 ∷ []) 8190, refused (no 15))
+    ∷ (toTree (54 ∷ 52 ∷ []) 8190, refused (no 15))
+    ∷ (toTree (53 ∷ 32 ∷ 53 ∷ []) 8190, refused (no 15))
+    ∷ (toTree (53 ∷ 40 ∷ []) 8190, refused (no 15))
+    ∷ (toTree (53 ∷ 41 ∷ []) 8190, refused (no 15))
+    ∷ (toTree (40 ∷ 41 ∷ []) 8190, refused (no 15))
+    ∷ (toTree (53 ∷ 40 ∷ 41 ∷ 40 ∷ 41 ∷ []) 8190, refused (no 15))
+    ∷ (toTree (53 ∷ 47 ∷ 54 ∷ []) 8190, refused (no 15))
+    ∷ (toTree (53 ∷ 9 ∷ []) 8190, refused (no 15))
+    ∷ (toTree (33 ∷ 53 ∷ []) 8190, refused (no 15))
     -- nothing, a pad alone, two trees, a leaf of label 1, a label of 64, a root with a sibling, a cut record, a byte behind the image
-    ∷ (toText [] 0, refused 15)
-    ∷ (toText (1 ∷ 0 ∷ []) 8188, refused 15)
-    ∷ (toText (1 ∷ 0 ∷ 1 ∷ 0 ∷ 2 ∷ 5 ∷ 1 ∷ 0 ∷ 1 ∷ 0 ∷ 2 ∷ 6 ∷ []) 8188, refused 15)
-    ∷ (toText (1 ∷ 0 ∷ 1 ∷ 1 ∷ 2 ∷ 5 ∷ []) 8188, refused 15)
-    ∷ (toText (1 ∷ 0 ∷ 1 ∷ 0 ∷ 2 ∷ 64 ∷ []) 8188, refused 15)
-    ∷ (toText (1 ∷ 0 ∷ 1 ∷ 0 ∷ 1 ∷ 0 ∷ 2 ∷ 6 ∷ 2 ∷ 5 ∷ []) 8188, refused 15)
-    ∷ (toText (1 ∷ 0 ∷ 1 ∷ 0 ∷ 2 ∷ []) 8188, refused 15)
-    ∷ (toText (nineTree ++ (1 ∷ [])) 8188, refused 15)
+    ∷ (toText [] 0, refused (no 15))
+    ∷ (toText (1 ∷ 0 ∷ []) 8188, refused (no 15))
+    ∷ (toText (1 ∷ 0 ∷ 1 ∷ 0 ∷ 2 ∷ 5 ∷ 1 ∷ 0 ∷ 1 ∷ 0 ∷ 2 ∷ 6 ∷ []) 8188, refused (no 15))
+    ∷ (toText (1 ∷ 0 ∷ 1 ∷ 1 ∷ 2 ∷ 5 ∷ []) 8188, refused (no 15))
+    ∷ (toText (1 ∷ 0 ∷ 1 ∷ 0 ∷ 2 ∷ 64 ∷ []) 8188, refused (no 15))
+    ∷ (toText (1 ∷ 0 ∷ 1 ∷ 0 ∷ 1 ∷ 0 ∷ 2 ∷ 6 ∷ 2 ∷ 5 ∷ []) 8188, refused (no 15))
+    ∷ (toText (1 ∷ 0 ∷ 1 ∷ 0 ∷ 2 ∷ []) 8188, refused (no 15))
+    ∷ (toText (nineTree ++ (1 ∷ [])) 8188, refused (no 15))
     ∷ []
 
 pub worked : map (λ c. reply (c .0)) cases ≡ map (λ c. c .1) cases

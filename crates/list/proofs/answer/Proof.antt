@@ -1,6 +1,7 @@
 -- `answer` tells what the paper's program says: 14 before all.
 use native.Mathlib.Omega.{arith}
 use borrow.Author.Needs.{needs}
+use Rattle.paper.specs.Refusals.{no}
 use Rattle.list.proofs.Answering.{refuses-lists, too-long}
 use Rattle.list.proofs.answer.Statement.{statement}
 use Rattle.list.proofs.answer.Tie as tie
@@ -14,7 +15,7 @@ same-length c = search needs
 returns : tie.Need-returns
 returns c =
     let start = c .before .before .before .before .before .before .before in
-    refuses-lists (start .args .input .now) 14 (too-long (start .args .input .now) (omega (arith, c .before .before .before .before .if1 .taken))) _ _ (omega (arith, start .pre .0, c .before .before .refuse .kept .1 .0)) (c .before .before .refuse .ensures)
+    refuses-lists (start .args .input .now) (no 14) (too-long (start .args .input .now) (omega (arith, c .before .before .before .before .if1 .taken))) _ _ (omega (arith, start .pre .0, c .before .before .refuse .kept .1 .0)) (c .before .before .refuse .ensures)
 
 list-requires : tie.Need-list-requires
 list-requires c κs = search needs

@@ -1,14 +1,17 @@
 -- `tarnsatchel::tell_build` meets its contract. Assumes nothing.
 use mathlib.Core.Path.{ap}
 use borrow.Author.Needs.{needs}
-use Rattle.paper.specs.Answers.{told, saysBuilt}
+use Rattle.paper.specs.Answers.{saysBuilt, told}
 use Rattle.tarnsatchel.specs.Told.{headNumbers}
-use Rattle.tarnsatchel.proofs.Telling.{tells-answer}
+use Rattle.tarnsatchel.proofs.Telling.{tells-built, tells-refused}
 use Rattle.tarnsatchel.proofs.tell_build.Statement.{statement}
 use Rattle.tarnsatchel.proofs.tell_build.Tie as tie
 
 enum-known-built : tie.Need-enum-known-built
 enum-known-built c = search needs
+
+position-after-requires : tie.Need-position-after-requires
+position-after-requires c κs = search needs
 
 number-requires : tie.Need-number-requires
 number-requires c κs = search needs
@@ -20,12 +23,25 @@ numbers-of-requires : tie.Need-numbers-of-requires
 numbers-of-requires c κs = search needs
 
 returns : tie.Need-returns
-returns c = search needs
+returns c =
+    let a = c .before .before .before .before .before .before .args in
+    tells-refused (a .head .now) (a .position .now) (ap (λ x. told headNumbers (saysBuilt x)) (c .before .before .before .before .built .given .1)) (c .number .ensures)
+    (c .before .position-after .ensures)
 
 returns-2 : tie.Need-returns-2
 returns-2 c =
     let k = c .before .before in
-    tells-answer (k .before .before .args .head .now) (ap (λ x. told headNumbers (saysBuilt x)) (k .built2 .given .1)) (c .numbers-of .ensures)
+    let a = k .before .before .args in
+    tells-built (a .head .now) (a .position .now) (ap (λ x. told headNumbers (saysBuilt x)) (k .built2 .given .1)) (c .numbers-of .ensures)
 
 pub tell-build-spec : {M : Type 1} → statement M
-tell-build-spec = tie.close (tie.spec enum-known-built number-requires enum-known-built-2 numbers-of-requires returns returns-2)
+tell-build-spec =
+    tie.close
+    (tie.spec
+    enum-known-built
+    position-after-requires
+    number-requires
+    enum-known-built-2
+    numbers-of-requires
+    returns
+    returns-2)

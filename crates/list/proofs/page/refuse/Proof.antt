@@ -2,9 +2,8 @@
 use mathlib.Core.Path.{refl}
 use native.Mathlib.Omega.{arith}
 use borrow.Author.Needs.{needs}
-use Rattle.paper.specs.Answers.{numberOf}
-use Rattle.lines.specs.Text.{refusedWord}
-use Rattle.lines.proofs.Putting.{fact-short, puts-fact}
+use Rattle.paper.specs.Answers.{noOf}
+use Rattle.lines.proofs.Putting.{puts-refusal, refusal-short}
 use Rattle.list.proofs.page.refuse.Statement.{statement}
 use Rattle.list.proofs.page.refuse.Tie as tie
 
@@ -20,9 +19,9 @@ same-length c = search needs
 returns : tie.Need-returns
 returns c =
     let start = c .before .before .before .before .before .before in
-    let short = fact-short refusedWord (numberOf (start .args .why)) in
+    let short = refusal-short (noOf (start .args .why)) in
     let put =
-    puts-fact refusedWord (numberOf (start .args .why)) 0 (start .args .text .now) (omega (arith, short, start .pre .0))
+    puts-refusal (noOf (start .args .why)) 0 (start .args .text .now) (omega (arith, short, start .pre .0))
     (c .before .before .before .put-refusal .ensures) in
     record { stands = put .stands; bytes = omega (arith, put .ends, short); unhanded = c .nothing .ensures; stops = refl }
 
