@@ -1,8 +1,9 @@
 #!/usr/bin/env bash
-# First the lines that are believed and not proved, and the tree program by itself. Then ./list as a user runs it: README.md's own example
-# letter by letter, files of each kind, each exit status, a text that cannot be written or that nobody reads on; then, with stand-ins
-# for the programs and for rt, what it says while it proves and builds, and what it does where that fails. tests/compare.sh holds what
-# the programs write to the independent programs. The last line is 'N passed, M failed'.
+# First the lines that are believed and not proved, and the tree program by itself. Then ./list as a user runs it: the examples of
+# README.md and examples/README.md letter by letter, files of each kind, each exit status, where a stream is wrong, a text that cannot
+# be written or that nobody reads on; then, with stand-ins for the programs and for rt, what it says while it proves and builds, and
+# what it does where that fails. tests/compare.sh holds what the programs write to the independent programs. The last line is
+# 'N passed, M failed'.
 set -u
 cd "$(dirname "$0")/.." || exit 2
 . tests/host.sh
@@ -62,13 +63,15 @@ done
 
 # ---- README.md
 
-readme=$(sed -n 's/^    \(\.\/list .*\)/\1/p' README.md)
-# shown LANGUAGE: the first block of this language behind the command
+# command_of FILE: the command ./list that it shows
+command_of() { sed -n 's/^    \(\.\/list .*\)/\1/p' "$1"; }
+readme=$(command_of README.md)
+# shown LANGUAGE [FILE]: the first block of this language behind the command, in README.md or in FILE
 shown() {
     awk -v fence='```'"$1" '
         /^    \.\/list / { seen = 1 }
         /^```/ { inside = !inside; of = inside && $0 == fence; if (!inside && shown) exit; next }
-        seen && of { shown = 1; print }' README.md
+        seen && of { shown = 1; print }' "${2:-README.md}"
 }
 shown '' >"$out/shown"
 [ -n "$readme" ] && [ -s "$out/shown" ] || give_up "README.md shows no command ./list, or not what it prints"
@@ -100,14 +103,12 @@ lines "two files of text" 0
 
 # ---- exit status
 
-prints "an empty stream" 1 <(echo 'refused 1') ./list /dev/null
+prints "an empty stream" 1 <(echo 'refused 1 at 0') ./list /dev/null
 lines "an empty stream" 0
 prints "a stream that is too long" 1 <(echo 'refused 14') ./list <(head -c 16385 /dev/zero)
-prints "a query behind a query" 1 <(echo 'refused 3') ./list "$pairs" "$out/names.query"
 # to_end FILE: with bounds on its time and on the files that it writes, which hold where ./list does not bound what it reads
 to_end() { (ulimit -f 1024 && bounded ./list /dev/null "$1"); }
 prints "a file without end" 1 <(echo 'refused 14') to_end /dev/zero
-prints "a tree without a query" 1 <(echo 'refused 3') ./list "$names.tree"
 # a slash that is in no comment
 echo '9(5 / 6)' >"$out/slash.tree"
 prints "a tree that is refused" 1 <(echo 'refused 15') ./list "$out/slash.tree" "$names.txt"
@@ -142,11 +143,160 @@ prints "no room for a stream" 2 /dev/null env TMPDIR="$out/none" ./list "$names.
 lines "no room for a stream" 1
 prints "no room needed" 0 "$out/pairs" env TMPDIR="$out/none" ./list "$pairs"
 mkdir "$out/rooms"
-for files in "$names.tree $names.txt" "$out/slash.tree $names.txt" "$names.tree $out/wrong.txt"; do
+for files in "$names.tree $names.txt" "$out/slash.tree $names.txt" "$names.tree $out/wrong.txt" "$names.txt $names.txt"; do
     # shellcheck disable=SC2086 # two words
     TMPDIR=$out/rooms ./list $files >/dev/null 2>&1
 done
 same "what is left behind" <(ls "$out/rooms") /dev/null
+
+# ---- where a stream is wrong
+
+# refuses LABEL LINE SAID FILES ..: ./list prints the line, which tells a refusal, and says SAID on standard error, or nothing
+refuses() {
+    local label=$1 line=$2 said=$3
+    shift 3
+    prints "$label" 1 <(echo "$line") bounded ./list "$@"
+    same "$label: what is said" "$out/said" <(printf '%s' "${said:+$said$'\n'}")
+}
+# changed NAME SCRIPT [FILES ..]: sets `wrong`, a text that sed makes of the query below, or of these files
+changed() {
+    local script=$2
+    wrong=$out/$1
+    shift 2
+    sed "$script" "${@:-$query}" >"$wrong"
+}
+
+mistaken=$(command_of examples/README.md)
+shown '' examples/README.md >"$out/shown_mistaken"
+[ -n "$mistaken" ] && [ -s "$out/shown_mistaken" ] || give_up "examples/README.md shows no command ./list, or not what it prints"
+prints "the wrong query of examples/README.md" 1 "$out/shown_mistaken" bash -c "$mistaken 2>&1"
+sed -n 's/^| `\.\/list \([^`]*\)` | `\([^`]*\)` | `\([^`]*\)` .*/\1|\2|\3/p' examples/README.md >"$out/table"
+[ -s "$out/table" ] || give_up "examples/README.md has no table of commands ./list"
+while IFS='|' read -r files line said; do
+    # shellcheck disable=SC2086 # one file or two
+    refuses "./list $files of examples/README.md" "$line" "$said" $files
+done <"$out/table"
+
+# The tree has 6 bytes, of lines 2, 3 and 4. The query has 19: its records begin at 0, 3, 7, 11 and 17, behind the tree at 6, 9, 13, 17
+# and 23, and all ends at 25.
+typed=$out/tree.txt query=$out/query.txt comment=$out/comment.txt
+printf '# two leaves under a branch\n1 5\n1 5\n2 9\n' >"$typed"
+cat >"$query" <<'QUERY'
+# 99 in a comment is no number
+
+  16 1 4   # head
+
+# leaf rules, a branch rule and the accepting state
+17 5 0 0
+17 5 1 1 # at place 1
+18 9 0 1 0 2
+19 2
+# 99
+QUERY
+echo '# 99' >"$comment"
+prints "nothing wrong" 0 <(printf 'records 2\nrows 1\n0\n') ./list "$typed" "$query"
+lines "nothing wrong" 0
+
+# the line that a byte came from
+at() { prints "the line of byte $1" 0 <(echo "$2") bash examples/streams/bytes.sh at "$1" <"$query"; }
+for byte in 0 1 2; do at "$byte" '3:   16 1 4   # head'; done
+at 3 '6: 17 5 0 0'
+at 6 '6: 17 5 0 0'
+at 7 '7: 17 5 1 1 # at place 1'
+at 18 '9: 19 2'
+at 19 '9: no number behind this line: 19 2'
+prints "a byte beyond the end" 2 /dev/null bash examples/streams/bytes.sh at 20 <"$query"
+same "a byte beyond the end: what is said" "$out/said" <(echo 'position 20 is beyond the end, which is 19')
+prints "the end where no byte is" 0 <(echo 'no number in this text') bash examples/streams/bytes.sh at 0 <"$comment"
+prints "a byte where none is" 2 /dev/null bash examples/streams/bytes.sh at 1 <"$comment"
+prints "a byte before a wrong word" 2 /dev/null bash examples/streams/bytes.sh at 0 < <(printf '1 5\nx\n')
+same "a byte before a wrong word: what is said" "$out/said" <(echo 'line 2: x is no number from 0 to 255')
+for words in 'at' '3' 'to 3' 'at 3 4' 'at x' 'at -1' 'at 05' 'at 18446744073709551616'; do
+    # shellcheck disable=SC2086 # the words one by one
+    prints "bytes.sh $words" 2 /dev/null bash examples/streams/bytes.sh $words <"$query"
+    same "bytes.sh $words: what is said" "$out/said" <(echo 'usage: bytes.sh [at POSITION]')
+done
+
+# a record of the query
+changed flag.txt '7s/1 1/2 1/'
+refuses "a flag out of range" 'refused 3 at 13' "$wrong:7: 17 5 2 1 # at place 1" "$typed" "$wrong"
+refuses "the same behind bracketed text" 'refused 3 at 69' "$wrong:7: 17 5 2 1 # at place 1" "$names.tree" "$wrong"
+bash examples/streams/bytes.sh <"$typed" >"$out/tree.bytes"
+refuses "the same behind bytes" 'refused 3 at 13' "$wrong:7: 17 5 2 1 # at place 1" "$out/tree.bytes" "$wrong"
+# tee opens the pipe itself, so that it is bounded where nobody reads
+mkfifo "$out/pipe.txt" || exit 2
+bounded tee "$out/pipe.txt" <"$wrong" >/dev/null &
+refuses "the same in a pipe, which is read once" 'refused 3 at 13' "$out/pipe.txt:7: 17 5 2 1 # at place 1" "$typed" "$out/pipe.txt"
+wait
+changed 'one file.txt' '11s/1 1/2 1/' "$typed" "$query"
+refuses "the same in one file, with a blank in its name" 'refused 3 at 13' "$wrong:11: 17 5 2 1 # at place 1" "$wrong"
+changed kind.txt '8s/18/20/'
+refuses "an unknown kind" 'refused 3 at 17' "$wrong:8: 20 9 0 1 0 2" "$typed" "$wrong"
+changed number_more.txt '6s/$/ 3/'
+refuses "a number too many" 'refused 3 at 13' "$wrong:6: 17 5 0 0 3" "$typed" "$wrong"
+changed number_less.txt '7s/5 //'
+refuses "a number too few" 'refused 3 at 13' "$wrong:7: 17 1 1 # at place 1" "$typed" "$wrong"
+changed cut.txt '9s/ 2//'
+refuses "a record that is cut" 'refused 3 at 23' "$wrong:9: 19" "$typed" "$wrong"
+changed head.txt '10a 16 1 4 # again'
+refuses "a second head" 'refused 3 at 25' "$wrong:11: 16 1 4 # again" "$typed" "$wrong"
+changed no_head.txt '3s/16/# 16/'
+refuses "no head first" 'refused 3 at 6' "$wrong:6: 17 5 0 0" "$typed" "$wrong"
+{ cat "$query" && printf '19 2'; } >"$out/accepted.txt"
+refuses "a state accepted twice, in a line without end" 'refused 4 at 25' "$out/accepted.txt:11: 19 2" "$typed" "$out/accepted.txt"
+changed two_records.txt '9s/$/ 19 2/'
+refuses "two records in a line, the second wrong" 'refused 4 at 25' "$wrong:9: 19 2 19 2" "$typed" "$wrong"
+# 1,000 leaf rules, of 63 labels and 16 flags
+{
+    echo '16 4 1'
+    for rule in $(seq 0 999); do echo "17 $((rule / 16)) $((rule % 16)) 0"; done
+    printf '\n# behind all\n17 3 2 0 # said before\n'
+} >"$out/far.txt"
+refuses "a rule said twice, far behind" 'refused 4 at 4009' "$out/far.txt:1004: 17 3 2 0 # said before" "$typed" "$out/far.txt"
+
+# a record of the tree
+changed label.txt '3s/5/64/' "$typed"
+refuses "a label over 63" 'refused 1 at 2' "$wrong:3: 1 64" "$wrong" "$query"
+changed branch.txt '3s/1/2/' "$typed"
+refuses "a branch of one subtree" 'refused 1 at 2' "$wrong:3: 2 5" "$wrong" "$query"
+changed cut_tree.txt '4s/ 9//' "$typed"
+refuses "a tree that is cut" 'refused 1 at 4' "$wrong:4: 2" "$wrong"
+cut=$wrong
+changed arity_two.txt '3s/1 4/2 4/'
+refuses "a head whose kind was taken for a label" 'refused 1 at 6' "$wrong:3:   16 2 4   # head" "$cut" "$wrong"
+{ printf '1 5\n%.0s' $(seq 4095) && echo 2; } >"$out/nodes.txt"
+refuses "a 4,096th node" 'refused 2 at 8190' "$out/nodes.txt:4096: 2" "$out/nodes.txt"
+
+# the tree's end, and the stream's
+changed subtrees.txt '4d' "$typed"
+refuses "two subtrees" 'refused 1 at 4' "$query:3: the tree ends before this line:   16 1 4   # head" "$wrong" "$query"
+refuses "two subtrees and no query" 'refused 1 at 4' "$wrong:3: no number behind this line: 1 5" "$wrong"
+bash examples/streams/bytes.sh <"$wrong" >"$out/subtrees.bytes"
+refuses "two subtrees in bytes" 'refused 1 at 4' "$out/names.query: at 0, where the tree ends" "$out/subtrees.bytes" "$out/names.query"
+changed subtrees_and_query.txt '4d' "$typed" "$query"
+refuses "two subtrees in one file" 'refused 1 at 4' "$wrong:6: the tree ends before this line:   16 1 4   # head" "$wrong"
+refuses "no tree" 'refused 1 at 0' "$query:3: the tree ends before this line:   16 1 4   # head" "$query"
+refuses "a tree of comment" 'refused 1 at 0' "$query:3: the tree ends before this line:   16 1 4   # head" "$comment" "$query"
+refuses "nothing but comment" 'refused 1 at 0' "$comment: no number in this text" "$comment"
+refuses "a typed tree and no query" 'refused 3 at 6' "$typed:4: no number behind this line: 2 9" "$typed"
+refuses "a query of comment" 'refused 3 at 6' "$comment: no number in this text" "$typed" "$comment"
+refuses "bracketed text and no query" 'refused 3 at 62' "$names.tree: at 62 of its records, where the stream ends" "$names.tree"
+refuses "bytes and nothing" 'refused 3 at 6' '/dev/null: at 0, where the stream ends' "$out/tree.bytes" /dev/null
+
+# files without lines
+refuses "a query behind a query" 'refused 3 at 123' "$out/names.query: at 0" "$pairs" "$out/names.query"
+refuses "a tree behind a query" 'refused 3 at 123' "$names.tree: at 0 of its records" "$pairs" "$names.tree"
+head -c 128 "$out/names.query" >"$out/names.cut"
+refuses "bytes that are cut" 'refused 3 at 189' "$out/names.cut: at 127" "$names.tree" "$out/names.cut"
+cat "$out/tree.bytes" "$out/names.cut" >"$out/cut.stream"
+refuses "one file of bytes" 'refused 3 at 133' '' "$out/cut.stream"
+refuses "standard input" 'refused 3 at 133' '' <"$out/cut.stream"
+
+# refusals without a position
+{ printf '1 5\n%.0s' $(seq 64) && printf '2 9\n%.0s' $(seq 63) && echo '16 4 16'; } >"$out/work.txt"
+refuses "too little work" 'refused 5' '' "$out/work.txt"
+yes 0 | head -n 16385 >"$out/long.txt"
+refuses "a typed stream that is too long" 'refused 14' '' "$out/long.txt"
 
 # ---- long listings
 
@@ -261,6 +411,12 @@ cp "$copy/bin/stand_in_list" "$copy/target/bin/list" && cp "$copy/bin/stand_in_t
 prints "an Arm host" 0 <(printf 'records 0\nrows 0\n') in_copy_typed
 same "both programs under the emulator" "$beside/bin/ran" \
     <(for name in tree list; do echo "$beside/lib/ld-linux-x86-64.so.2 --library-path $beside/lib $there/target/bin/$name"; done)
+# the line is found without the emulator; the tree has two bytes
+mkdir -p "$copy/examples/streams" && cp examples/streams/bytes.sh "$copy/examples/streams"
+echo 'echo "refused 3 at 5"' | stand_in "$copy/target/bin/list"
+in_copy_typed_both() { PATH=$PWD/$copy/bin:$PATH "$copy/list" "$names.tree" "$query"; }
+prints "a refusal on an Arm host" 1 <(echo 'refused 3 at 5') in_copy_typed_both
+same "a refusal on an Arm host: what is said" "$out/said" <(echo "$query:6: 17 5 0 0")
 
 rm "$copy/target/bin/list"
 printf 'echo "rt: low proved (1 s)"; echo "rt: middle NOT PROVED (exit 1, 1 s)"; exit 1\n' | stand_in "$copy/bin/rt"
