@@ -93,7 +93,7 @@ readme_prints tarnsatchel-list <(printf 'records 11\nrows 3\n4 5\n8 13\n11 13\n'
 readme_prints '{ tarnsatchel-tree' <(printf 'records 11\nrows 3\n8 27\n17 26\n20 26\n')
 echo '9(5 / 6)' >"$away/slash.tree"
 piped=$(shown '^    \({ tarnsatchel-tree .*\)')
-prints "a tree that is refused, before a query" 0 <(echo 'refused 1') in_away "${piped/names.tree/slash.tree}"
+prints "a tree that is refused, before a query" 0 <(echo 'refused 1 at 0') in_away "${piped/names.tree/slash.tree}"
 
 # ---- the programs, of which README.md says what they ask of a host and with what they end
 
@@ -108,7 +108,7 @@ for installed in tarnsatchel-list tarnsatchel-tree; do
     same "what $installed asks of a host" <(asks "$prefix/bin/$installed") \
         <(printf '%s\n' /lib64/ld-linux-x86-64.so.2 libc.so.6 "GLIBC_$(shown '.*glibc \([0-9.]*[0-9]\) .*')")
 done
-prints "an empty stream" 0 <(echo 'refused 1') env -i "${program_runner[@]}" "$prefix/bin/tarnsatchel-list" </dev/null
+prints "an empty stream" 0 <(echo 'refused 1 at 0') env -i "${program_runner[@]}" "$prefix/bin/tarnsatchel-list" </dev/null
 prints "an empty text" 0 <(echo 'refused 15') env -i "${program_runner[@]}" "$prefix/bin/tarnsatchel-tree" </dev/null
 
 # ---- taken away
