@@ -9,13 +9,17 @@ cd "$(dirname "$0")/.." || exit 2
 out=target/examples
 mkdir -p "$out" || exit 2
 
-# show LANGUAGE COMMAND ..: on both streams, with a build and a question that are refused, and with words that it cannot take
+# the ninth branch rule is cut: the tree's 30 bytes, the head, 4 leaf rules and 8 branch rules stand before it
+head -c 100 examples/streams/pairs.stream >"$out/cut.stream"
+
+# show LANGUAGE COMMAND ..: on both streams, with builds and a question that are refused, and with words that it cannot take
 show() {
     local language=$1
     shift
     prints "$language, pairs" 0 examples/streams/pairs.expected "$@" examples/streams/pairs.stream 1 2 2 13 8 13
     prints "$language, triples" 0 examples/streams/triples.expected "$@" examples/streams/triples.stream 0 2 1 10 10 1 8
-    prints "$language, no stream" 1 <(echo 'build refused 1') "$@" /dev/null 0 0 1 0 0
+    prints "$language, no stream" 1 <(echo 'build refused 1 at 0') "$@" /dev/null 0 0 1 0 0
+    prints "$language, pairs cut" 1 <(echo 'build refused 3 at 97') "$@" "$out/cut.stream" 0 0 1 0 0
     prints "$language, place 3 of pairs" 1 <(sed '/^place 2/,$d' examples/streams/pairs.expected && echo 'project refused 7') \
         "$@" examples/streams/pairs.stream 1 2 3 13 8 13
     prints "$language, no such file" 2 /dev/null "$@" "$out/none" 0 0 1 0 0
@@ -46,8 +50,9 @@ typed() {
     prints "$language, no text" 1 <(echo 'text_to_tree refused 15') "$@" 5 ''
     prints "$language, no UTF-8" 1 <(echo 'text_to_tree refused 15') "$@" 5 $'\xff'
     local label
+    # 6 bytes of the tree, then 9 of the query stand before the rule for the label
     for label in 64 255; do
-        prints "$language, label $label" 1 <(printf '%s\n' 'tree 1 0 1 0 2 9' 'build refused 3') "$@" "$label" 9
+        prints "$language, label $label" 1 <(printf '%s\n' 'tree 1 0 1 0 2 9' 'build refused 3 at 15') "$@" "$label" 9
     done
     for label in x 300 99999999999999999999 '' -1 +5 ' 5' 5x 5,6 $'\xff'; do
         prints "$language, label '$label'" 2 /dev/null "$@" "$label" 9

@@ -7,7 +7,7 @@
  * - A buffer is a pointer and its length in entries. It may be longer than asked for: the entries behind stay as they are.
  *   With length 0 the pointer is not followed. What a call writes to may not overlap what else is lent to it.
  * - What is lent as const is not written. The out parameters (head, rows, listed, fixed, bytes) are written only with an
- *   answer.
+ *   answer, but position only with refusals 1 to 4; otherwise they stay as they were. None may be a null pointer.
  * - Work need not be cleared before a call. After it the stated part is zero and the rest as it was; after refusals 1 to 5
  *   all of it is as it was.
  * - Nothing is kept between calls and no memory is asked for, so calls on different buffers may run at the same time.
@@ -68,10 +68,13 @@ enum {
  * marked at the row's nodes, has an accepting run; and it is listed once. A pad is a leaf of label 0: it has its state by its
  * rule with flag 0, and its rules with a flag above 0 are tested and counted and never used.
  * Returns 0, or 1, 2 (tree), 3, 4 (query), 5, 6: the tree first, then the query, and in each the first record at fault.
+ * Position: written with 1 to 4 only, and with 0, 5 and 6 as it was. It counts bytes of the input from 0 and is that of the
+ * same first fault: the first byte of the record at fault; where the tree ends with nothing or with several subtrees, the place
+ * where it ended; where the input ends before a head, its length. So it is at most input_length, and then no byte stands there.
  * Work: (1 + the most subtrees ever unjoined) * states * 2 to the arity.
  * Table: the records made stand first, the rest is as it was; after 6 every entry is blank, after 1 to 5 all is as it was. */
 uint8_t tarn_build(const uint8_t *input, size_t input_length, uint64_t *work, size_t work_length, tarn_record *table,
-                   size_t table_length, uint16_t head[TARN_HEAD]);
+                   size_t table_length, uint16_t head[TARN_HEAD], size_t *position);
 
 /* Counts the rows that a set lists, at most 2 to the power of 48.
  * Returns 0, or 5, 11, in this order. Work: head[TARN_USED]. */

@@ -35,13 +35,14 @@ module tarnsatchel
   integer, parameter, public :: tarn_most_written = 2047, tarn_longest_tree = 8190, tarn_longest_text = 8188
 
   interface
-    function c_build(input, input_length, work, work_length, table, table_length, head) result(refused) &
+    function c_build(input, input_length, work, work_length, table, table_length, head, position) result(refused) &
         bind(c, name='tarn_build')
       import :: c_int8_t, c_int16_t, c_int64_t, c_size_t, tarn_record
       integer(c_int8_t), intent(in) :: input(*)
       integer(c_int64_t), intent(inout) :: work(*)
       type(tarn_record), intent(inout) :: table(*)
       integer(c_int16_t), intent(inout) :: head(6)
+      integer(c_size_t), intent(inout) :: position
       integer(c_size_t), value :: input_length, work_length, table_length
       integer(c_int8_t) :: refused
     end function
@@ -124,15 +125,21 @@ module tarnsatchel
 
 contains
 
-  ! Builds the set of a stream. Refused 1 to 6.
-  function tarn_build(input, work, table, head) result(refused)
+  ! Builds the set of a stream. Refused 1 to 6. Position may be left out. With 1 to 4 it is how many bytes stand before the fault,
+  ! so that the record at fault begins at input(position + 1); where the tree or the input has ended, that may be behind the last.
+  ! With 0, 5 and 6 it stays as it was.
+  function tarn_build(input, work, table, head, position) result(refused)
     integer(c_int8_t), contiguous, intent(in) :: input(:)
     integer(c_int64_t), contiguous, intent(inout) :: work(:)
     type(tarn_record), contiguous, intent(inout) :: table(:)
     integer(c_int16_t), intent(inout) :: head(6)
+    integer, intent(inout), optional :: position
     integer :: refused
+    integer(c_size_t) :: told
+    told = 0
     refused = c_build(input, size(input, kind=c_size_t), work, size(work, kind=c_size_t), &
-        table, size(table, kind=c_size_t), head)
+        table, size(table, kind=c_size_t), head, told)
+    if (present(position) .and. refused >= tarn_refused_tree .and. refused <= tarn_refused_twice) position = int(told)
   end function
 
   ! Counts the rows. Refused 5, 11.

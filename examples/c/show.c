@@ -23,6 +23,16 @@ static void stop_if_refused(const char *call, uint8_t refused) {
     exit(1);
 }
 
+/* The first four are told with their position in the stream. */
+static void stop_if_build_refused(uint8_t refused, size_t position) {
+    if (refused < TARN_REFUSED_TREE || refused > TARN_REFUSED_TWICE) {
+        stop_if_refused("build", refused);
+        return;
+    }
+    printf("build refused %d at %zu\n", refused, position);
+    exit(1);
+}
+
 static size_t read_stream(const char *name) {
     FILE *file = fopen(name, "rb");
     if (!file) {
@@ -91,8 +101,9 @@ int main(int words, char **word) {
         return 2;
     }
     uint16_t head[TARN_HEAD];
-    size_t length = read_stream(word[1]);
-    stop_if_refused("build", tarn_build(input, length, work, TARN_MOST_WORK, table, TARN_MOST_RECORDS, head));
+    size_t length = read_stream(word[1]), position = 0;
+    uint8_t refused = tarn_build(input, length, work, TARN_MOST_WORK, table, TARN_MOST_RECORDS, head, &position);
+    stop_if_build_refused(refused, position);
     printf("records %d\nrows %llu\n", head[TARN_USED], (unsigned long long)count(head, table));
     printf("rows %s to %s:\n", word[2], word[3]);
     list(head, table, strtoull(word[2], NULL, 10), strtoull(word[3], NULL, 10));

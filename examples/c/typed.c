@@ -25,6 +25,16 @@ static void stop_if_refused(const char *call, uint8_t refused) {
     exit(1);
 }
 
+/* The first four are told with their position in the stream. */
+static void stop_if_build_refused(uint8_t refused, size_t position) {
+    if (refused < TARN_REFUSED_TREE || refused > TARN_REFUSED_TWICE) {
+        stop_if_refused("build", refused);
+        return;
+    }
+    printf("build refused %d at %zu\n", refused, position);
+    exit(1);
+}
+
 /* Writes a branch rule, and tells where the next record begins. */
 static uint8_t *put_rule(uint8_t *to, uint8_t label, uint8_t flag, uint8_t left, uint8_t right, uint8_t state) {
     const uint8_t rule[] = {18, label, flag, left, right, state};
@@ -70,10 +80,11 @@ int main(int words, char **word) {
     for (size_t at = 0; at < tree_length; at++) printf(" %d", stream[at]);
     printf("\n");
 
-    size_t query_length = put_query(stream + tree_length, label);
+    size_t length = tree_length + put_query(stream + tree_length, label), position = 0;
     uint16_t head[TARN_HEAD], node;
     uint64_t rows = 0;
-    stop_if_refused("build", tarn_build(stream, tree_length + query_length, work, TARN_MOST_WORK, table, TARN_MOST_RECORDS, head));
+    uint8_t refused = tarn_build(stream, length, work, TARN_MOST_WORK, table, TARN_MOST_RECORDS, head, &position);
+    stop_if_build_refused(refused, position);
     stop_if_refused("count", tarn_count(head, table, TARN_MOST_RECORDS, work, TARN_MOST_WORK, &rows));
     printf("rows %llu\n", (unsigned long long)rows);
     for (uint64_t number = 0; number < rows; number++) {

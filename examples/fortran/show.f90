@@ -14,11 +14,14 @@ program show
   integer(c_int64_t), allocatable :: work(:)
   type(tarn_record), allocatable :: table(:), target(:)
   integer(c_int16_t) :: head(6)
+  integer :: refused, position
 
   if (command_argument_count() < 6) call stop_unable('usage: show STREAM FIRST LAST PLACE NODE ROW ..')
   allocate (work(tarn_most_work), table(tarn_most_records), target(tarn_most_records))
   input = stream(word(1))
-  call stop_if_refused('build', tarn_build(input, work, table, head))
+  position = 0
+  refused = tarn_build(input, work, table, head, position)
+  call stop_if_build_refused(refused, position)
   print '(a, i0)', 'records ', tarn_number(head(tarn_used))
   print '(a, i0)', 'rows ', count_of(head, table)
   print '(a, i0, a, i0, a)', 'rows ', number(2), ' to ', number(3), ':'
@@ -69,6 +72,17 @@ contains
     integer, intent(in) :: refused
     if (refused == 0) return
     print '(a, a, i0)', asked, ' refused ', refused
+    stop 1, quiet=.true.
+  end subroutine
+
+  ! The first four are told with their position in the stream.
+  subroutine stop_if_build_refused(refused, position)
+    integer, intent(in) :: refused, position
+    if (refused < tarn_refused_tree .or. refused > tarn_refused_twice) then
+      call stop_if_refused('build', refused)
+      return
+    end if
+    print '(a, i0, a, i0)', 'build refused ', refused, ' at ', position
     stop 1, quiet=.true.
   end subroutine
 

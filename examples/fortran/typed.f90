@@ -16,7 +16,7 @@ program typed
   integer(c_int16_t) :: head(6), row(1)
   integer(c_int64_t) :: rows, at
   character(tarn_longest_text) :: text
-  integer :: tree_length, text_length, label
+  integer :: tree_length, text_length, label, refused, position
 
   if (command_argument_count() /= 2) call stop_unable('usage: typed LABEL TEXT')
   label = label_of(word(1))
@@ -24,7 +24,9 @@ program typed
   print '(a, *(1x, i0))', 'tree', tree(:tree_length)
 
   allocate (work(tarn_most_work), table(tarn_most_records))
-  call stop_if_refused('build', tarn_build([tree(:tree_length), query(label)], work, table, head))
+  position = 0
+  refused = tarn_build([tree(:tree_length), query(label)], work, table, head, position)
+  call stop_if_build_refused(refused, position)
   call stop_if_refused('count', tarn_count(head, table, work, rows))
   print '(a, i0)', 'rows ', rows
   do at = 0, rows - 1
@@ -68,6 +70,17 @@ contains
     integer, intent(in) :: refused
     if (refused == 0) return
     print '(a, a, i0)', asked, ' refused ', refused
+    stop 1, quiet=.true.
+  end subroutine
+
+  ! The first four are told with their position in the stream.
+  subroutine stop_if_build_refused(refused, position)
+    integer, intent(in) :: refused, position
+    if (refused < tarn_refused_tree .or. refused > tarn_refused_twice) then
+      call stop_if_refused('build', refused)
+      return
+    end if
+    print '(a, i0, a, i0)', 'build refused ', refused, ' at ', position
     stop 1, quiet=.true.
   end subroutine
 

@@ -67,7 +67,8 @@ pub fn time_build_and_count(input: &[u8], buffers: &mut Buffers) -> Medians {
 
 /// What is timed as a check is one: both refuse a stream for a rule that it says again, and the other does not see it.
 pub fn hold_to_the_check(said_twice: &[u8], buffers: &mut Buffers) {
-    assert_eq!(buffers.build(said_twice), Err(Refusal::Twice), "refused by the library");
+    // wherever: so an archive of before request 2026-04, which tells no position, can be timed too
+    assert!(matches!(buffers.build(said_twice), Err(Refusal::Twice(_))), "refused by the library");
     assert_eq!(ordinary::build(said_twice), None, "refused by the ordinary program");
     assert_ne!(ordinary::build_unchecked(said_twice).records.len(), 0, "built without the check");
 }

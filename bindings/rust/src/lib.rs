@@ -47,14 +47,15 @@ pub const MOST_WRITTEN: usize = 2_047;
 pub const LONGEST_TREE: usize = 8_190;
 pub const LONGEST_TEXT: usize = 8_188;
 
-/// The numbers that say no.
+/// The numbers that say no. The first four are a build's, and have the byte position in its stream, from 0: the first byte of the record
+/// at fault; where the tree ends with nothing or with several subtrees, the place where it ended; where the input ends before a head, its
+/// length.
 #[derive(Clone, Copy, Debug, PartialEq, Eq)]
-#[repr(u8)]
 pub enum Refusal {
-    Tree = 1,
-    ManyNodes,
-    Query,
-    Twice,
+    Tree(usize),
+    ManyNodes(usize),
+    Query(usize),
+    Twice(usize),
     ShortWork,
     ShortTable,
     Place,
@@ -71,14 +72,14 @@ pub enum Refusal {
 
 /// Builds the set of a stream. Refused 1 to 6.
 pub fn build(input: &[u8], work: &mut [u64], table: &mut [Record]) -> Result<Head, Refusal> {
-    let mut head = [0; 6];
+    let (mut head, mut position) = ([0; 6], 0);
     // SAFETY: here and below each pointer is that of a slice with its length or of a variable, what is written to is borrowed alone,
     // and the library touches nothing else.
     let refused = unsafe {
         let (work, table) = ((work.as_mut_ptr(), work.len()), (table.as_mut_ptr(), table.len()));
-        c::tarn_build(input.as_ptr(), input.len(), work.0, work.1, table.0, table.1, &mut head)
+        c::tarn_build(input.as_ptr(), input.len(), work.0, work.1, table.0, table.1, &mut head, &mut position)
     };
-    unless_refused(refused, Head::of_numbers(head))
+    unless_refused_at(position, refused, Head::of_numbers(head))
 }
 
 /// Counts the rows. Refused 5, 11.
@@ -164,41 +165,79 @@ impl Head {
     }
 }
 
+/// Of a call that is no build, and so never refused with a position.
 fn unless_refused<A>(number: u8, answer: A) -> Result<A, Refusal> {
+    unless_refused_at(0, number, answer)
+}
+
+fn unless_refused_at<A>(position: usize, number: u8, answer: A) -> Result<A, Refusal> {
     match number {
         0 => Ok(answer),
-        _ => Err(REFUSALS[number as usize - 1]),
+        _ => Err(refusals(position)[number as usize - 1]),
     }
 }
 
 /// By their numbers, from 1.
-const REFUSALS: [Refusal; 15] = [
-    Refusal::Tree,
-    Refusal::ManyNodes,
-    Refusal::Query,
-    Refusal::Twice,
-    Refusal::ShortWork,
-    Refusal::ShortTable,
-    Refusal::Place,
-    Refusal::Node,
-    Refusal::RowNumber,
-    Refusal::ShortOutput,
-    Refusal::NotSound,
-    Refusal::UnitTwice,
-    Refusal::RowLength,
-    Refusal::LongInput,
-    Refusal::Text,
-];
+fn refusals(position: usize) -> [Refusal; 15] {
+    [
+        Refusal::Tree(position),
+        Refusal::ManyNodes(position),
+        Refusal::Query(position),
+        Refusal::Twice(position),
+        Refusal::ShortWork,
+        Refusal::ShortTable,
+        Refusal::Place,
+        Refusal::Node,
+        Refusal::RowNumber,
+        Refusal::ShortOutput,
+        Refusal::NotSound,
+        Refusal::UnitTwice,
+        Refusal::RowLength,
+        Refusal::LongInput,
+        Refusal::Text,
+    ]
+}
 
 impl Refusal {
     pub fn number(self) -> u8 {
-        self as u8
+        match self {
+            Refusal::Tree(_) => 1,
+            Refusal::ManyNodes(_) => 2,
+            Refusal::Query(_) => 3,
+            Refusal::Twice(_) => 4,
+            Refusal::ShortWork => 5,
+            Refusal::ShortTable => 6,
+            Refusal::Place => 7,
+            Refusal::Node => 8,
+            Refusal::RowNumber => 9,
+            Refusal::ShortOutput => 10,
+            Refusal::NotSound => 11,
+            Refusal::UnitTwice => 12,
+            Refusal::RowLength => 13,
+            Refusal::LongInput => 14,
+            Refusal::Text => 15,
+        }
+    }
+
+    /// Where the stream is wrong; none where the refusal is not of its bytes.
+    pub fn position(self) -> Option<usize> {
+        match self {
+            Refusal::Tree(position) | Refusal::ManyNodes(position) | Refusal::Query(position) | Refusal::Twice(position) => {
+                Some(position)
+            }
+            _ => None,
+        }
     }
 }
 
+/// As the listing program says it: `refused 3 at 40`, or `refused 5`.
 impl fmt::Display for Refusal {
     fn fmt(&self, f: &mut fmt::Formatter) -> fmt::Result {
-        write!(f, "refused {}", self.number())
+        write!(f, "refused {}", self.number())?;
+        match self.position() {
+            Some(position) => write!(f, " at {position}"),
+            None => Ok(()),
+        }
     }
 }
 
@@ -216,6 +255,7 @@ mod c {
             table: *mut Record,
             table_length: usize,
             head: &mut [u16; 6],
+            position: &mut usize,
         ) -> u8;
         pub fn tarn_count(
             head: &[u16; 6],
