@@ -1,7 +1,7 @@
 #!/usr/bin/env bash
 # Compares the library, through the driver, and its programs with independent ones, on many streams, questions, texts and images:
-# `records` follows document 01 with plain vectors, `markings` tries all markings, both with what request 2026-02 says of pads, and
-# `texts` follows request 2026-01 with a tree of nodes.
+# `records` follows document 01 with plain vectors, `markings` tries all markings, both with what request 2026-02 says of pads and
+# request 2026-04 of positions, and `texts` follows request 2026-01 with a tree of nodes.
 # The counts of the real streams of tests/fortran are held to rows.txt there, which none of these programs made.
 # The last line is 'N passed, M failed'.
 #   bash tests/compare.sh [WORDS ..]         WORDS go to the comparison, as --seed 5; --stream 17, --listing 17, --group 17, --text 17,

@@ -1,14 +1,15 @@
 //! Document 01's 'Examples by hand', with the values that the paper says or that were worked out from it by hand; the listing of B
 //! followed by Q as both programs print it, and request 2026-01's example as `texts` does; and each clause of 'A set is sound' broken
-//! once. Request 2026-02's streams stand in pads_by_hand.rs.
+//! once. Request 2026-02's streams stand in pads_by_hand.rs, those of 2026-04 in positions_by_hand.rs.
 
 use crate::pads_by_hand;
+use crate::positions_by_hand::{self, is_refused};
 use crate::tally::Tally;
 use crate::texts_by_hand::IMAGES;
 use crate::verdict::{same, Verdict};
 use records::questions::Asked;
 use records::set::{is_sound, rows_of, Row};
-use records::{After, Head, Record, Set, BLANK};
+use records::{Built, Head, Record, Refusal, Set, BLANK};
 use std::io::Write;
 use std::path::Path;
 use std::process::{Command, Stdio};
@@ -51,6 +52,10 @@ const RECORDS_OF_B: [[u16; 5]; 13] = [
 const LISTING_OF_B: &str = "records 13\nrows 3\n0 3\n1 3\n0 1\n";
 const MARKINGS_OF_B: &str = "rows 3\n0 1\n0 3\n1 3\n";
 
+/// B has 10 bytes and Q 65; its state is accepted again behind them.
+const ACCEPTED_AGAIN: &[u8] = &[19, 2];
+const REFUSED_AGAIN: &str = "refused 4 at 75\n";
+
 const GARBAGE: u64 = 99;
 
 pub fn check_all(programs: &Path, tally: &mut Tally) {
@@ -79,9 +84,17 @@ pub fn check_all(programs: &Path, tally: &mut Tally) {
         tally.own("examples by hand", label, check());
     }
     pads_by_hand::check_all(tally);
+    positions_by_hand::check_all(tally);
+    check_programs(programs, tally);
+}
+
+fn check_programs(programs: &Path, tally: &mut Tally) {
     let b_and_q = [B, Q].concat();
     tally.own("examples by hand", "the listing by records", prints(programs, "records", &[], &b_and_q, LISTING_OF_B.as_bytes()));
     tally.own("examples by hand", "the rows by markings", prints(programs, "markings", &[], &b_and_q, MARKINGS_OF_B.as_bytes()));
+    let again = [B, Q, ACCEPTED_AGAIN].concat();
+    tally.own("examples by hand", "a refusal by records", prints(programs, "records", &[], &again, REFUSED_AGAIN.as_bytes()));
+    tally.own("examples by hand", "a refusal by markings", prints(programs, "markings", &[], &again, REFUSED_AGAIN.as_bytes()));
     let (text, image) = IMAGES[0];
     tally.own("examples by hand", "the tree by texts", prints(programs, "texts", &[], text.as_bytes(), image));
     tally.own("examples by hand", "the text by texts", prints(programs, "texts", &["back"], image, text.as_bytes()));
@@ -89,7 +102,7 @@ pub fn check_all(programs: &Path, tally: &mut Tally) {
 
 // ---- building
 
-fn build(tree: &[u8], work: usize, table: usize) -> After<Head, Vec<Record>> {
+fn build(tree: &[u8], work: usize, table: usize) -> Built {
     records::build(&[tree, Q].concat(), &vec![GARBAGE; work], &vec![Record::single(9, 9); table])
 }
 
@@ -110,7 +123,7 @@ fn rows(head: &Head, table: &[Record]) -> Vec<Row> {
 }
 
 /// The rows by markings come in ascending order.
-fn accepted(tree: &[u8]) -> Result<Vec<Row>, u8> {
+fn accepted(tree: &[u8]) -> Result<Vec<Row>, markings::Refusal> {
     markings::read(&[tree, Q].concat()).map(|stream| stream.accepted_rows())
 }
 
@@ -120,7 +133,7 @@ fn p1() -> Verdict {
     same("records", &built.lent[..], &RECORDS_OF_B.map(record)[..7])?;
     same("rows", rows(&built.answer.unwrap(), &built.lent), vec![vec![0, 1]])?;
     same("accepted", accepted(A), Ok(vec![vec![0, 1]]))?;
-    same("a table of 6", build(A, 48, 6).answer, Err(6))
+    same("a table of 6", build(A, 48, 6).answer, Err(Refusal::nowhere(6)))
 }
 
 fn p2() -> Verdict {
@@ -140,7 +153,7 @@ fn p3() -> Verdict {
 
 fn p10() -> Verdict {
     same("work of 48", build(B, 48, 13).answer, Ok(set_b().0))?;
-    same("work of 47", build(B, 47, 13).answer, Err(5))
+    same("work of 47", build(B, 47, 13).answer, Err(Refusal::nowhere(5)))
 }
 
 /// A stream, with its records and the rows in the set's order, worked out by hand. The last record is the set; where there is no row, it
@@ -225,14 +238,11 @@ fn two_accepting() -> Verdict {
     Worked { tree: A, query: &query, made: &made, rows: &[&[1], &[0]] }.check()
 }
 
+/// Empty input, a tree with no query, and 2 9.
 fn refused_streams() -> Verdict {
-    let lone_branch: &[u8] = &[2, 9];
-    let streams: [(&str, &[u8], u8); 3] = [("empty input", &[], 1), ("a tree with no query", B, 3), ("2 9", lone_branch, 1)];
-    for (what, input, number) in streams {
-        same(what, records::build(input, &[0; 48], &[Record::default(); 13]).answer, Err(number))?;
-        same(what, markings::read(input).err(), Some(number))?;
-    }
-    Ok(())
+    is_refused(&[], 1, 0)?;
+    is_refused(B, 3, 10)?;
+    is_refused(&[2, 9], 1, 0)
 }
 
 fn left_behind() -> Verdict {

@@ -1,13 +1,13 @@
 //! The cases: a stream with the buffers lent to its build.
 
 use crate::call::{Buffer, Call, Function};
-use crate::damage::{any_bytes, byte_changed, byte_dropped, byte_put_in, cut, record_moved};
+use crate::damage::{any_bytes, any_damage, byte_changed, byte_dropped, byte_put_in, cut, record_moved, Damage};
 use crate::garbage;
 use crate::limits;
 use crate::numbered::{Kinds, Numbered};
 use crate::random::Random;
 use crate::streams::{
-    any_places_seen, any_valid, any_with_q, dense, grown, leaves_all_pads, one_label, one_pad, some_pads, Stream,
+    any_places_seen, any_valid, any_with_q, dense, grown, large, leaves_all_pads, one_label, one_pad, some_pads, Stream,
 };
 use records::set::{Record, MOST_RECORDS};
 
@@ -16,8 +16,9 @@ pub struct Case {
     pub input: Vec<u8>,
     pub work: Vec<u64>,
     pub table: Vec<Record>,
-    /// What stands in the head before the call.
+    /// What stands in the head before the call, and in the position.
     pub head: [u16; 6],
+    pub position: u64,
 }
 
 impl Case {
@@ -27,6 +28,7 @@ impl Case {
             ("work entry", Buffer::Numbers(self.work.clone())),
             ("table entry", Buffer::Records(self.table.clone())),
             ("head number", Buffer::Shorts(self.head.to_vec())),
+            ("position", Buffer::Numbers(vec![self.position])),
         ];
         Call { function: Function::Build, numbers: [0, 0], lent }
     }
@@ -64,12 +66,13 @@ const RANDOM: &Kinds<Case> = &[
     (1_500, |r| any_room("work one short", r, Room::WorkShort)),
     (1_500, |r| any_room("table one short", r, Room::TableShort)),
     (500, |r| any_room("work and table long", r, Room::Long)),
-    (3_000, |r| damaged("a byte changed", r, byte_changed)),
-    (1_500, |r| damaged("cut", r, cut)),
-    (2_000, |r| damaged("a byte dropped", r, byte_dropped)),
-    (2_000, |r| damaged("a byte put in", r, byte_put_in)),
-    (1_500, |r| damaged("a record moved or said again", r, record_moved)),
+    (3_000, |r| damaged("a byte changed", r, any_valid, byte_changed)),
+    (1_500, |r| damaged("cut", r, any_valid, cut)),
+    (2_000, |r| damaged("a byte dropped", r, any_valid, byte_dropped)),
+    (2_000, |r| damaged("a byte put in", r, any_valid, byte_put_in)),
+    (1_500, |r| damaged("a record moved or said again", r, any_valid, record_moved)),
     (500, |r| any_stream("any bytes", r)),
+    (500, |r| damaged("any damage in a large stream", r, large, any_damage)),
     (200, |r| limits::many_rules("limit: 1,024 rules and more, any", r)),
 ];
 
@@ -91,8 +94,8 @@ fn any_room(kind: &'static str, random: &mut Random, room: Room) -> Case {
     lend(random, kind, input, room, LONGEST_TABLE)
 }
 
-fn damaged(kind: &'static str, random: &mut Random, damage: fn(&mut Random, &Stream) -> Vec<u8>) -> Case {
-    let stream = any_valid(random);
+fn damaged(kind: &'static str, random: &mut Random, make: fn(&mut Random) -> Stream, damage: Damage) -> Case {
+    let stream = make(random);
     let input = damage(random, &stream);
     lend(random, kind, input, Room::Enough, LONGEST_TABLE)
 }
@@ -113,7 +116,7 @@ pub fn lend(random: &mut Random, kind: &'static str, input: Vec<u8>, room: Room,
         (room, Ok(needs)) => lengths(random, room, needs.work, needs.records.unwrap_or(longest)),
     };
     let (work, table) = (garbage::numbers(random, work), garbage::records(random, table));
-    Case { kind, input, work, table, head: garbage::head(random) }
+    Case { kind, input, work, table, head: garbage::head(random), position: garbage::position(random) }
 }
 
 fn lengths(random: &mut Random, room: Room, work: usize, made: usize) -> (usize, usize) {

@@ -9,7 +9,7 @@ use crate::trials::{Gave, Trial};
 use crate::verdict::{same, same_entries, Verdict};
 use markings::Stream;
 use records::set::{is_sound, rows_of, Row};
-use records::{After, Head, Record, Set};
+use records::{Built, Head, Record, Refusal, Set};
 
 /// A tree with more markings than this is not tried.
 pub const MOST_MARKINGS: u64 = 30_000;
@@ -19,6 +19,8 @@ pub const MOST_MARKINGS: u64 = 30_000;
 pub struct Seen {
     /// The refusal's number, or 0.
     pub answer: u8,
+    /// Where it is refused 1 to 4.
+    pub position: Option<usize>,
     /// The rows compared with all markings; none where the tree has too many.
     pub rows: Option<usize>,
     pub records: usize,
@@ -40,7 +42,7 @@ impl Trial for StreamTrial {
 
     fn judge(&self, gave: Gave, tally: &mut Tally) {
         let expected = records::build(&self.case.input, &self.case.work, &self.case.table);
-        let mut seen = Seen { answer: expected.answer.err().unwrap_or(0), ..Seen::default() };
+        let mut seen = Seen { answer: number_of(&expected), position: position_in(&expected), ..Seen::default() };
         seen.entries = self.call().entries();
         seen.records = expected.answer.map_or(0, |head| head.used as usize);
         seen.met = expected.answer.map_or(Met::default(), |head| Met::in_stream(&self.case.input, head.set != Set::Empty));
@@ -55,27 +57,39 @@ impl Trial for StreamTrial {
 
 impl StreamTrial {
     /// Everything that the library left is what `records` says; and the rows of the library's own records are those of all markings.
-    fn check(&self, left: &Left, expected: &After<Head, Vec<Record>>, seen: &mut Seen) -> Verdict {
+    fn check(&self, left: &Left, expected: &Built, seen: &mut Seen) -> Verdict {
         left.is(&self.call(), &self.expected(expected))?;
         check_rows(&self.case.input, expected, left.lent[2].records(), seen)
     }
 
-    fn expected(&self, after: &After<Head, Vec<Record>>) -> Left {
+    /// An out parameter is written only with an answer, but the position only with refusals 1 to 4.
+    fn expected(&self, after: &Built) -> Left {
         let lent = vec![
             Buffer::Bytes(self.case.input.clone()),
             Buffer::Numbers(after.work.clone()),
             Buffer::Records(after.lent.clone()),
             Buffer::Shorts(after.answer.map_or(self.case.head, |head| numbers_of(&head)).to_vec()),
+            Buffer::Numbers(vec![position_in(after).map_or(self.case.position, |position| position as u64)]),
         ];
-        Left { answer: after.answer.err().unwrap_or(0), lent }
+        Left { answer: number_of(after), lent }
     }
 }
 
-/// `markings` gives the same refusals 1 to 4, and of a small tree the same rows. No record is at a pad, however large the tree is.
-fn check_rows(input: &[u8], expected: &After<Head, Vec<Record>>, table: &[Record], seen: &mut Seen) -> Verdict {
-    let said_by_stream = expected.answer.err().filter(|&number| number <= 4);
+/// The refusal's number, or 0.
+fn number_of(built: &Built) -> u8 {
+    built.answer.err().map_or(0, |refusal| refusal.number)
+}
+
+fn position_in(built: &Built) -> Option<usize> {
+    built.answer.err().and_then(|refusal| refusal.position)
+}
+
+/// `markings` gives the same refusals 1 to 4 at the same positions, and of a small tree the same rows. No record is at a pad, however
+/// large the tree is.
+fn check_rows(input: &[u8], expected: &Built, table: &[Record], seen: &mut Seen) -> Verdict {
+    let said_by_stream = expected.answer.err().filter(|refusal| refusal.number <= 4);
     let stream = markings::read(input);
-    same("refusal by markings and by records", stream.as_ref().err().copied(), said_by_stream)?;
+    same("refusal by markings and by records", stream.as_ref().err().map(refusal_of), said_by_stream)?;
     let (stream, head) = match (stream, expected.answer) {
         (Ok(stream), Ok(head)) => (stream, head),
         _ => return Ok(()),
@@ -88,6 +102,11 @@ fn check_rows(input: &[u8], expected: &After<Head, Vec<Record>>, table: &[Record
         seen.rows = Some(rows_by_markings(&stream, &head, table)?.len());
     }
     Ok(())
+}
+
+/// What `markings` says in the words of `records`.
+pub fn refusal_of(refusal: &markings::Refusal) -> Refusal {
+    Refusal::at(refusal.position, refusal.number)
 }
 
 /// The records made are at most 4 times 3 to the arity times rules times nodes, plus one less than the accepting states.

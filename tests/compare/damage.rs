@@ -4,6 +4,8 @@ use crate::byte_damage::{self, ByteDamage};
 use crate::random::Random;
 use crate::streams::{Stream, ACCEPTING, BRANCH, BRANCH_RULE, HEAD, LEAF, LEAF_RULE};
 
+pub type Damage = fn(&mut Random, &Stream) -> Vec<u8>;
+
 /// A kind, a number near a limit, or any byte.
 fn any_byte(random: &mut Random) -> u8 {
     match random.below(3) {
@@ -56,6 +58,12 @@ fn say_again(random: &mut Random, stream: &Stream, records: &mut Vec<Vec<u8>>) {
         *again.last_mut().expect("a body") = 0;
     }
     records.insert(random.between(from + 1, records.len()), again);
+}
+
+/// Any of the above.
+pub fn any_damage(random: &mut Random, stream: &Stream) -> Vec<u8> {
+    let damage = random.pick(&[byte_changed as Damage, cut, byte_dropped, byte_put_in, record_moved]);
+    damage(random, stream)
 }
 
 /// No stream at all, but bytes that often are kinds.

@@ -40,3 +40,8 @@ pub fn bytes(random: &mut Random, length: usize) -> Vec<u8> {
 pub fn head(random: &mut Random) -> [u16; 6] {
     [0; 6].map(|_: u16| random.any() as u16)
 }
+
+/// Farther than any, so that one which is not written never passes for the right one.
+pub fn position(random: &mut Random) -> u64 {
+    random.any() | 1 << 63
+}

@@ -4,10 +4,11 @@
 use crate::cases::{lend, Case, Room, LONGEST_TABLE};
 use crate::pad_limits;
 use crate::pads_by_hand;
+use crate::positions_by_hand;
 use crate::random::Random;
 use crate::streams::{
     any_shape, balanced, labelled, labels_of_q, left_comb, places_seen, query_q, right_comb, Labels, Query, Stream, ACCEPTING,
-    BRANCH, BRANCH_RULE, HEAD, LEAF, LEAF_RULE, MOST_RULES, PAD,
+    BRANCH, BRANCH_RULE, HEAD, LEAF, LEAF_RULE, MOST_LEAVES, MOST_RULES, PAD,
 };
 
 pub struct Limit {
@@ -19,9 +20,6 @@ pub struct Limit {
 pub const TREE_A: &[u8] = &[1, 5, 1, 5, 2, 9];
 pub const TREE_B: &[u8] = &[1, 5, 1, 5, 2, 9, 1, 5, 2, 9];
 const TREE_C: &[u8] = &[1, 5];
-
-/// The leaves of a tree of 4,095 nodes.
-pub const MOST_LEAVES: usize = 2048;
 
 pub fn all() -> Vec<Limit> {
     let mut limits = Vec::new();
@@ -40,6 +38,7 @@ pub fn all() -> Vec<Limit> {
     all_states_accepting(&mut limits);
     most_records(&mut limits);
     pad_limits::add_all(&mut limits);
+    positions(&mut limits);
     limits
 }
 
@@ -122,6 +121,12 @@ pub fn different_rules(count: usize) -> Vec<u8> {
         vec![BRANCH_RULE, label as u8, flag as u8, left as u8, right as u8, ((left + right) % 16) as u8]
     });
     leaf.chain(branch).take(count).collect::<Vec<_>>().concat()
+}
+
+/// The most, and no leaf rule among them, for a label that no tree here has: no rules take more bytes.
+pub fn branch_rules() -> Vec<u8> {
+    let rule = |n: usize| [BRANCH_RULE, 10, (n / 256) as u8, (n / 16 % 16) as u8, (n % 16) as u8, 0];
+    (0..MOST_RULES).flat_map(rule).collect()
 }
 
 fn rules(limits: &mut Vec<Limit>) {
@@ -267,6 +272,15 @@ fn cuts(limits: &mut Vec<Limit>) {
     for (kind, input) in [("limit: B and Q, cut everywhere", b), ("limit: a typed tree, cut everywhere", typed)] {
         for length in 0..=input.len() {
             add_enough(limits, kind, &[&input[..length]]);
+        }
+    }
+}
+
+/// Whatever is lent: 5 and 6 come behind 1 to 4.
+fn positions(limits: &mut Vec<Limit>) {
+    for refused in positions_by_hand::all() {
+        for room in [Room::Of(0, 0), Room::Enough] {
+            add(limits, "limit: positions by hand", &[&refused.input], room);
         }
     }
 }

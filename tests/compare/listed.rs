@@ -1,13 +1,14 @@
 //! Judges one listing: the program's text, where there is a program, against the text by `records`, and what stands in it against
 //! all markings.
 
-use crate::check::MOST_MARKINGS;
+use crate::check::{refusal_of, MOST_MARKINGS};
 use crate::listings::Listing;
 use crate::pads::Met;
 use crate::program::Program;
 use crate::tally::Tally;
 use crate::verdict::{same, same_entries, Verdict};
 use markings::Stream;
+use records::Refusal;
 
 /// No case lists more.
 const MOST_ROWS: usize = 1_000_000;
@@ -17,6 +18,8 @@ const MOST_ROWS: usize = 1_000_000;
 pub struct Told {
     /// The refusal's number, or 0.
     pub answer: u8,
+    /// Where it is refused 1 to 4.
+    pub position: Option<usize>,
     pub bytes: usize,
     pub has_no_row: bool,
     /// The rows compared with all markings; none where the tree has too many.
@@ -28,7 +31,9 @@ pub struct Told {
 /// With no program the text by `records` is judged.
 pub fn judge(case: &Listing, number: usize, program: Option<&Program>, tally: &mut Tally) {
     let expected = records::listing::listing(&case.input, MOST_ROWS).expect("few rows");
-    let mut told = Told { answer: refusal_in(&expected).unwrap_or(0), bytes: expected.len(), ..Told::default() };
+    let refusal = refusal_in(&expected);
+    let mut told = Told { answer: refusal.map_or(0, |refusal| refusal.number), bytes: expected.len(), ..Told::default() };
+    told.position = refusal.and_then(|refusal| refusal.position);
     told.has_no_row = expected.ends_with("\nrows 0\n");
     told.met = if told.answer == 0 { Met::in_stream(&case.input, !told.has_no_row) } else { Met::default() };
     let text = program.map_or(Ok(expected.clone().into_bytes()), |program| program.text(&case.input, case.piece));
@@ -44,16 +49,22 @@ fn lines(text: &[u8]) -> Vec<String> {
     text.split_inclusive(|&byte| byte == b'\n').map(|line| String::from_utf8_lossy(line).into_owned()).collect()
 }
 
-fn refusal_in(text: &str) -> Option<u8> {
-    text.strip_prefix("refused ")?.trim_end().parse().ok()
+/// In a line as `refused 14`, or as `refused 3 at 40`.
+fn refusal_in(text: &str) -> Option<Refusal> {
+    let said = text.strip_prefix("refused ")?.strip_suffix('\n')?;
+    match said.split_once(" at ") {
+        Some((number, position)) => Some(Refusal::at(position.parse().ok()?, number.parse().ok()?)),
+        None => Some(Refusal::nowhere(said.parse().ok()?)),
+    }
 }
 
-/// `markings` gives the same refusals 1 to 4, and of a small tree the same rows; it knows nothing of the program's buffers.
+/// `markings` gives the same refusals 1 to 4 at the same positions, and of a small tree the same rows; it knows nothing of the program's
+/// buffers.
 fn check_markings(input: &[u8], text: &str, told: &mut Told) -> Verdict {
     match (markings::read(input), refusal_in(text)) {
-        (_, Some(14)) | (Ok(_), Some(5 | 6)) => Ok(()),
-        (Err(number), refused) => same("refusal by markings", Some(number), refused),
-        (Ok(_), Some(number)) => Err(format!("refused {number}, and not by markings")),
+        (_, Some(Refusal { number: 14, position: None })) | (Ok(_), Some(Refusal { number: 5 | 6, position: None })) => Ok(()),
+        (Err(refusal), refused) => same("refusal by markings", Some(refusal_of(&refusal)), refused),
+        (Ok(_), Some(refused)) => Err(format!("{refused:?}, and not by markings")),
         (Ok(stream), None) if stream.markings() > MOST_MARKINGS => Ok(()),
         (Ok(stream), None) => check_rows(&stream, text, told),
     }

@@ -1,15 +1,15 @@
 //! The streams that go through the listing program: random ones, those of the library's limits, the real ones, and the program's own
 //! limits: an input of 16,384 bytes, a work of 16,384 numbers, a table of 2,000 records, a text that fills its buffer.
 
-use crate::damage::{any_bytes, byte_changed, byte_dropped, byte_put_in, cut, record_moved};
-use crate::limits::{self, different_rules, making, q, tree_for_q, MOST_LEAVES, TREE_B};
+use crate::damage::{any_bytes, any_damage, byte_changed, byte_dropped, byte_put_in, cut, record_moved, Damage};
+use crate::limits::{self, branch_rules, different_rules, making, q, tree_for_q, TREE_B};
 use crate::numbered::{Kinds, Numbered};
 use crate::random::Random;
 use crate::real;
 use crate::streams::{
-    any_places_seen, any_shape, any_valid, any_with_q, balanced, dense, grown, labelled, labels_of_q, leaves_all_pads, left_comb,
-    one_label, one_pad, places_seen, right_comb, some_pads, Query, Stream, ACCEPTING, BRANCH, BRANCH_RULE, HEAD, LEAF, LEAF_RULE,
-    MOST_RULES, PAD,
+    any_places_seen, any_shape, any_valid, any_with_q, balanced, dense, grown, labelled, labels_of_q, large, leaves_all_pads,
+    left_comb, one_label, one_pad, places_seen, right_comb, some_pads, Query, Stream, ACCEPTING, BRANCH, BRANCH_RULE, HEAD, LEAF,
+    LEAF_RULE, MOST_LEAVES, MOST_RULES, PAD,
 };
 use std::collections::HashSet;
 
@@ -38,12 +38,13 @@ const RANDOM: &Kinds<Listing> = &[
     (30, |r| whole("no label but 0", r, one_label)),
     (20, |r| whole("the tree is one pad", r, one_pad)),
     (100, |r| whole("many rows", r, many_rows)),
-    (250, |r| damaged("a byte changed", r, byte_changed)),
-    (150, |r| damaged("cut", r, cut)),
-    (150, |r| damaged("a byte dropped", r, byte_dropped)),
-    (150, |r| damaged("a byte put in", r, byte_put_in)),
-    (150, |r| damaged("a record moved or said again", r, record_moved)),
+    (250, |r| damaged("a byte changed", r, any_valid, byte_changed)),
+    (150, |r| damaged("cut", r, any_valid, cut)),
+    (150, |r| damaged("a byte dropped", r, any_valid, byte_dropped)),
+    (150, |r| damaged("a byte put in", r, any_valid, byte_put_in)),
+    (150, |r| damaged("a record moved or said again", r, any_valid, record_moved)),
     (50, |r| Listing::of("any bytes", r, any_bytes)),
+    (150, |r| damaged("any damage in a large stream", r, large, any_damage)),
 ];
 
 /// A kind and its input.
@@ -75,9 +76,9 @@ fn whole(kind: &'static str, random: &mut Random, make: fn(&mut Random) -> Strea
     Listing::of(kind, random, |random| make(random).bytes())
 }
 
-fn damaged(kind: &'static str, random: &mut Random, damage: fn(&mut Random, &Stream) -> Vec<u8>) -> Listing {
+fn damaged(kind: &'static str, random: &mut Random, make: fn(&mut Random) -> Stream, damage: Damage) -> Listing {
     Listing::of(kind, random, |random| {
-        let stream = any_valid(random);
+        let stream = make(random);
         damage(random, &stream)
     })
 }
@@ -119,8 +120,7 @@ fn lengths(all: &mut Vec<Limit>) {
 /// 4,095 nodes, 1,024 rules and 16 accepting states: with branch rules alone no stream is longer.
 fn longest_streams(all: &mut Vec<Limit>) {
     let mut tree = tree_for_q(&balanced(MOST_LEAVES));
-    let rule = |n: usize| [BRANCH_RULE, 10, (n / 256) as u8, (n / 16 % 16) as u8, (n % 16) as u8, 0];
-    let rules: Vec<u8> = (0..MOST_RULES).flat_map(rule).collect();
+    let rules = branch_rules();
     let accepting: Vec<u8> = (0..16).flat_map(|state| [ACCEPTING, state]).collect();
     let longest = [&tree, [HEAD, 4, 16].as_slice(), &rules, &accepting].concat();
     assert_eq!(longest.len(), 14_369, "the longest stream");

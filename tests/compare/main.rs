@@ -35,6 +35,7 @@ mod numbered;
 mod pad_limits;
 mod pads;
 mod pads_by_hand;
+mod positions_by_hand;
 mod program;
 mod queried;
 mod questions;
@@ -95,6 +96,7 @@ fn main() -> ExitCode {
     check_typed(&made, tree.as_ref(), &mut tally);
     check_calls(&made, driver.as_ref(), &mut tally);
     tally.pads_are_enough();
+    tally.positions_are_enough();
     tally.print(driver.is_some());
     if tally.failed() == 0 {
         ExitCode::SUCCESS

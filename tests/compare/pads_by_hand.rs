@@ -2,9 +2,10 @@
 //! document 01 by hand, streams that are refused as before, and questions on the set of a typed tree.
 
 use crate::by_hand::{ask, fix, Worked};
+use crate::positions_by_hand::is_refused;
 use crate::tally::Tally;
 use crate::verdict::{same, Verdict};
-use records::{Record, Set};
+use records::Set;
 
 /// The text `9(5 6)`: pads 0, 1, 2, branch 6 as node 3 on 1 and 2, branch 5 as node 4 on 0 and 3, pad 5, branch 9 as node 6 on 4 and 5.
 /// In state 1 a node is marked, and the query has every rule that marks one, a pad's too.
@@ -91,17 +92,18 @@ const WORKED: &[(&str, Worked)] = &[
     }),
 ];
 
-/// Queries on one pad: rules that are never used are still read, tested and counted.
+/// Queries on one pad, with the number and the position, the pad's 2 bytes before them: rules that are never used are still read, tested
+/// and counted.
 #[rustfmt::skip]
-const REFUSED: &[(&str, &[u8], u8)] = &[
-    ("said twice", &[16, 1, 1, 17, 0, 1, 0, 17, 0, 1, 0], 4),
-    ("said twice with another state", &[16, 1, 2, 17, 0, 1, 0, 17, 0, 0, 0, 17, 0, 1, 1], 4),
-    ("a flag out of range", &[16, 1, 1, 17, 0, 2, 0], 3),
-    ("a state out of range", &[16, 1, 1, 17, 0, 1, 1], 3),
-    ("said twice, and a state out of range", &[16, 1, 1, 17, 0, 1, 0, 17, 0, 1, 1], 3),
-    ("cut behind its flag", &[16, 1, 1, 17, 0, 1], 3),
-    ("cut behind its label", &[16, 1, 1, 17, 0], 3),
-    ("before the head", &[17, 0, 1, 0, 16, 1, 1], 3),
+const REFUSED: &[(&str, &[u8], u8, usize)] = &[
+    ("said twice", &[16, 1, 1, 17, 0, 1, 0, 17, 0, 1, 0], 4, 9),
+    ("said twice with another state", &[16, 1, 2, 17, 0, 1, 0, 17, 0, 0, 0, 17, 0, 1, 1], 4, 13),
+    ("a flag out of range", &[16, 1, 1, 17, 0, 2, 0], 3, 5),
+    ("a state out of range", &[16, 1, 1, 17, 0, 1, 1], 3, 5),
+    ("said twice, and a state out of range", &[16, 1, 1, 17, 0, 1, 0, 17, 0, 1, 1], 3, 9),
+    ("cut behind its flag", &[16, 1, 1, 17, 0, 1], 3, 5),
+    ("cut behind its label", &[16, 1, 1, 17, 0], 3, 5),
+    ("before the head", &[17, 0, 1, 0, 16, 1, 1], 3, 2),
 ];
 
 pub const ONE_PAD: &[u8] = &[1, 0];
@@ -111,8 +113,8 @@ pub fn check_all(tally: &mut Tally) {
     for (what, worked) in WORKED {
         tally.own(kind, what, worked.check());
     }
-    for (what, query, number) in REFUSED {
-        tally.own(kind, what, is_refused(query, *number));
+    for (what, query, number, position) in REFUSED {
+        tally.own(kind, what, is_refused(&[ONE_PAD, query].concat(), *number, *position));
     }
     tally.own(kind, "questions on a typed tree", questions());
 }
@@ -120,13 +122,7 @@ pub fn check_all(tally: &mut Tally) {
 /// All of them, for the library and for the listing program.
 pub fn streams() -> Vec<Vec<u8>> {
     let worked = WORKED.iter().map(|(_, worked)| worked.stream());
-    worked.chain(REFUSED.iter().map(|(_, query, _)| [ONE_PAD, query].concat())).collect()
-}
-
-fn is_refused(query: &[u8], number: u8) -> Verdict {
-    let input = [ONE_PAD, query].concat();
-    same("by records", records::build(&input, &[0; 8], &[Record::default(); 8]).answer, Err(number))?;
-    same("by markings", markings::read(&input).err(), Some(number))
+    worked.chain(REFUSED.iter().map(|(_, query, ..)| [ONE_PAD, query].concat())).collect()
 }
 
 /// A pad is a node of the tree, so it may be asked for; and it stands nowhere.

@@ -6,6 +6,7 @@ use crate::random::Random;
 use crate::streams::{places_seen, Labels, BRANCH, MOST_RULES, PAD};
 use crate::verdict::{same, Verdict};
 use records::set::{count_of, MOST_RECORDS};
+use records::Refusal;
 
 pub const KIND: &str = "images of texts, with a query";
 
@@ -61,8 +62,8 @@ impl Queried {
         match built.answer {
             Ok(head) => same("rows by records and as known", count_of(&head, &built.lent), self.rows),
             // a tree that makes more records than may be
-            Err(6) => Ok(()),
-            Err(number) => Err(format!("refused {number} by records")),
+            Err(refusal) if refusal == Refusal::nowhere(6) => Ok(()),
+            Err(refusal) => Err(format!("{refusal:?} by records")),
         }
     }
 }

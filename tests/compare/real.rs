@@ -60,7 +60,7 @@ impl RealStreams {
     pub fn count(&self, number: usize) -> Result<QuestionTrial, String> {
         let case = self.case(number);
         let built = records::build(&case.input, &case.work, &case.table);
-        let head = built.answer.map_err(|refusal| format!("refused {refusal} by records"))?;
+        let head = built.answer.map_err(|refusal| format!("{refusal:?} by records"))?;
         let set = WholeSet { head: numbers_of(&head), table: built.lent };
         let asked = Asked { asking: set.count(&mut self.random(number)), rows: None, promised: true };
         let (pads, counted) = (pads_of(&case.input), Some(self.rows(number)));

@@ -84,14 +84,14 @@ pub fn any_built(random: &mut Random) -> Stream {
 /// Or what the rows by markings differ in.
 pub fn built(random: &mut Random, stream: &Stream) -> Result<BuiltSet, String> {
     let input = stream.bytes();
-    let needs = records::needs(&input).map_err(|number| format!("refused {number}"))?;
+    let needs = records::needs(&input).map_err(|refusal| format!("{refusal:?}"))?;
     let made = needs.records.ok_or("more than 60,000 records")?;
     let length = made + random.below(4);
     let table = garbage::records(random, length);
     let built = records::build(&input, &vec![0; needs.work], &table);
-    let head = built.answer.map_err(|number| format!("refused {number}"))?;
+    let head = built.answer.map_err(|refusal| format!("{refusal:?}"))?;
     let set = WholeSet { head: numbers_of(&head), table: built.lent };
-    let stream = markings::read(&input).map_err(|number| format!("refused {number}"))?;
+    let stream = markings::read(&input).map_err(|refusal| format!("{refusal:?}"))?;
     let rows = if stream.markings() <= MOST_MARKINGS { Some(rows_by_markings(&stream, &head, &set.table)?) } else { None };
     Ok(BuiltSet { set, rows: rows.map(Rc::new), pads: pads_of(&input) })
 }

@@ -15,6 +15,9 @@ pub const PAD: u8 = 0;
 
 pub const MOST_RULES: usize = 1024;
 
+/// The leaves of a tree of 4,095 nodes.
+pub const MOST_LEAVES: usize = 2048;
+
 /// A stream by its records, so that damage can be done to bytes and to whole records.
 #[derive(Clone)]
 pub struct Stream {
@@ -326,6 +329,21 @@ fn places_seen_of(random: &mut Random, labels: &Labels) -> Stream {
     let states = random.between(1 << arity, 16);
     let branches = random.chance(60);
     Stream { tree, query: places_seen(arity, states, labels, branches).shuffled(random) }
+}
+
+/// Of so many nodes and rules that a fault may stand far behind the first byte.
+pub fn large(random: &mut Random) -> Stream {
+    let labels = any_labels(random);
+    let tree = any_tree(random, MOST_LEAVES, &labels);
+    // more than one place, so that all markings are too many to be tried
+    let mut query = Query::new(random.between(2, 4), random.between(1, 16));
+    for _ in 0..random.between(1, MOST_RULES) {
+        query.add_any_rule(random, &labels);
+    }
+    for _ in 0..random.below(4) {
+        query.accepting.insert(query.any_state(random));
+    }
+    Stream { tree, query: query.shuffled(random) }
 }
 
 // ---- pads

@@ -10,6 +10,7 @@ use crate::listings::{Listing, BUFFER};
 use crate::pads::Met;
 use crate::typed::Typed;
 use crate::verdict::{same, Verdict};
+use std::collections::BTreeSet;
 
 const MOST_PRINTED: usize = 20;
 const LONGEST_PRINTED: usize = 160;
@@ -32,6 +33,11 @@ const ONE_IN: [usize; 4] = [3, 4, 10, 10];
 
 /// At least so many rows, members, projections and fixings are asked of sets with pads.
 const FEWEST_OF_PADS: usize = 500;
+
+/// Refusals 1 to 4 have a position: each at so many different ones or more, and 2 at the one where a 4,096th tree record begins.
+const WITH_POSITION: usize = 4;
+const FEWEST_POSITIONS: [usize; WITH_POSITION] = [100, 1, 300, 150];
+const OF_MANY_NODES: usize = 8190;
 
 #[derive(Clone, Copy, PartialEq)]
 pub enum What {
@@ -94,6 +100,8 @@ pub struct Tally {
     /// By question, in the order of the paper: all, and those whose answer could be another if pads stood in rows.
     asked: [usize; QUESTIONS],
     asked_of_pads: [usize; QUESTIONS],
+    /// By refusal, from 1: the positions at which streams and listings are refused.
+    positions: [BTreeSet<usize>; WITH_POSITION],
 }
 
 impl Tally {
@@ -127,6 +135,7 @@ impl Tally {
     }
 
     pub fn stream(&mut self, case: &Case, label: &str, seen: &Seen, verdict: Verdict) {
+        self.met_position(seen.answer, seen.position);
         let kind = self.kind(case.kind, What::Streams);
         kind.answers[seen.answer as usize] += 1;
         kind.listed += seen.rows.is_some() as usize;
@@ -140,6 +149,7 @@ impl Tally {
     }
 
     pub fn listing(&mut self, case: &Listing, number: usize, told: &Told, verdict: Verdict) {
+        self.met_position(told.answer, told.position);
         let kind = self.kind(case.kind, What::Listings);
         kind.answers[told.answer as usize] += 1;
         kind.listed += told.rows.is_some() as usize;
@@ -150,6 +160,12 @@ impl Tally {
         kind.met.add(told.met);
         let rest = format!(" ({} bytes in pieces of {}: {})", case.input.len(), case.piece, words(case.input.iter()));
         self.judge(case.kind, What::Listings, &format!("listing {number}"), &rest, verdict);
+    }
+
+    fn met_position(&mut self, refusal: u8, position: Option<usize>) {
+        if let Some(position) = position {
+            self.positions[refusal as usize - 1].insert(position);
+        }
     }
 
     /// The program is run on many streams, with every refusal that it can give, long listings and some with no row.
@@ -217,6 +233,15 @@ impl Tally {
         self.own("pads", "questions", same("enough", of_sets.map(|asked| asked >= FEWEST_OF_PADS), [true; 4]));
     }
 
+    /// Faults are met at many positions, near and far.
+    pub fn positions_are_enough(&mut self) {
+        let name = "positions";
+        let enough = [0, 1, 2, 3].map(|refusal| self.positions[refusal].len() >= FEWEST_POSITIONS[refusal]);
+        let of_many_nodes: Vec<usize> = self.positions[1].iter().copied().collect();
+        self.own(name, "number", same("enough", enough, [true; WITH_POSITION]));
+        self.own(name, "refused 2", same("positions", of_many_nodes, vec![OF_MANY_NODES]));
+    }
+
     fn all_met(&self, what: What) -> [usize; 4] {
         let parts: [fn(&AllMet) -> usize; 4] =
             [|met| met.pads, |met| met.unused_rules, |met| met.unused_rules_and_rows, |met| met.marked_branches];
@@ -235,6 +260,7 @@ impl Tally {
         self.print_tables();
         self.print_sums();
         self.print_pads();
+        self.print_positions();
         if with_driver {
             let called = [What::Streams, What::Questions, What::Texts, What::Images, What::RoundTrips];
             let entries: usize = called.map(|what| self.sum(what, |kind| kind.entries)).iter().sum();
@@ -294,6 +320,13 @@ impl Tally {
         println!(
             "of sets with pads {rows} rows, {projections} projections, {members} members that name one, {fixings} fixings at one"
         );
+    }
+
+    fn print_positions(&self) {
+        let of_each = (1..).zip(&self.positions).map(|(refusal, positions)| {
+            format!("{} of refusal {refusal} up to {}", positions.len(), positions.last().unwrap_or(&0))
+        });
+        println!("different positions: {}", of_each.collect::<Vec<_>>().join(", "));
     }
 
     /// How many cases, how many of them answered and held to rows found by another way, and what there is to say of them.

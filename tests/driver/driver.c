@@ -26,7 +26,7 @@ enum { MOST_BUFFERS = 5, ROOM = 1 << 23, FORBIDDEN = 1 << 20, MOST_SECONDS = 10 
 
 /* The size of an entry of each buffer; 0 behind the last one. */
 static const size_t entry_sizes[FUNCTIONS][MOST_BUFFERS] = {
-    [BUILD] = {BYTE, NUMBER, RECORD, SHORT},
+    [BUILD] = {BYTE, NUMBER, RECORD, SHORT, NUMBER},
     [COUNT] = {SHORT, RECORD, NUMBER, NUMBER},
     [ROW] = {SHORT, RECORD, NUMBER, SHORT},
     [MEMBER] = {SHORT, RECORD, NUMBER, SHORT, BYTE},
@@ -35,7 +35,7 @@ static const size_t entry_sizes[FUNCTIONS][MOST_BUFFERS] = {
     [TEXT_TO_TREE] = {BYTE, BYTE, NUMBER},
     [TREE_TO_TEXT] = {BYTE, BYTE, NUMBER},
 };
-/* how many bytes were written is lent as one NUMBER */
+/* the position of a fault, and how many bytes were written, are lent as one NUMBER */
 _Static_assert(sizeof(size_t) == NUMBER, "a size has 64 bits");
 
 typedef struct {
@@ -103,7 +103,7 @@ static buffer take_buffer(int number, size_t entry_size) {
 static uint8_t call(int function, const buffer *b, const uint64_t *number) {
     switch (function) {
     case BUILD:
-        return tarn_build(LENT(0), LENT(1), LENT(2), b[3].at);
+        return tarn_build(LENT(0), LENT(1), LENT(2), b[3].at, b[4].at);
     case COUNT:
         return tarn_count(b[0].at, LENT(1), LENT(2), b[3].at);
     case ROW:

@@ -1,7 +1,7 @@
 //! Tries all markings of a stream: every row of nodes of its tree, the rules run on the tree marked with the row, and the accepted
-//! rows listed. A plain reading of document 01, 'The input stream', 'What a row is' and the first four 'Numbers that say no', and of
-//! request 2026-02's sentence on rows that name pads. It shares no code with the library nor with `records`, and knows nothing of
-//! sets, so that what it lists is what a row is.
+//! rows listed. A plain reading of document 01, 'The input stream', 'What a row is' and the first four 'Numbers that say no', of
+//! request 2026-02's sentence on rows that name pads, and of request 2026-04's on positions. It shares no code with the library nor
+//! with `records`, and knows nothing of sets, so that what it lists is what a row is.
 
 use std::collections::HashMap;
 
@@ -43,20 +43,46 @@ pub struct Stream {
     accepting: Vec<u8>,
 }
 
+/// Why a stream is refused: the number, 1 to 4, and the byte position.
+#[derive(Clone, Copy, Debug, PartialEq)]
+pub struct Refusal {
+    pub number: u8,
+    pub position: usize,
+}
+
 /// A record of the stream, with as much of its body as the input has.
 struct Record<'a> {
     kind: u8,
     body: &'a [u8],
 }
 
-/// The stream that the input holds, or the number that refuses it, 1 to 4.
-pub fn read(input: &[u8]) -> Result<Stream, u8> {
+/// The number that refuses, and how many records of its part stand before the fault: all, where something is missing behind them.
+struct Fault {
+    number: u8,
+    before: usize,
+}
+
+/// The stream that the input holds, or why it is refused.
+pub fn read(input: &[u8]) -> Result<Stream, Refusal> {
     let records = records_of(input);
     let end = records.iter().position(|r| r.kind != LEAF && r.kind != BRANCH).unwrap_or(records.len());
-    let nodes = nodes_of(&records[..end])?;
+    let (tree, query) = records.split_at(end);
+    let nodes = nodes_of(tree).map_err(|fault| fault.behind(&[], tree))?;
     let mut stream = Stream { nodes, arity: 0, rules: HashMap::new(), accepting: Vec::new() };
-    stream.add_query(&records[end..])?;
+    stream.add_query(query).map_err(|fault| fault.behind(tree, query))?;
     Ok(stream)
+}
+
+impl Fault {
+    /// Its position is as many bytes as stand before it: those of the part before, and of the records before it in its own part.
+    fn behind(&self, part_before: &[Record], own: &[Record]) -> Refusal {
+        let position = part_before.iter().chain(&own[..self.before]).map(bytes_in).sum();
+        Refusal { number: self.number, position }
+    }
+}
+
+fn bytes_in(record: &Record) -> usize {
+    1 + record.body.len()
 }
 
 fn body_length(kind: u8) -> Option<usize> {
@@ -85,27 +111,32 @@ fn is_cut(record: &Record) -> bool {
     body_length(record.kind) != Some(record.body.len())
 }
 
-fn nodes_of(records: &[Record]) -> Result<Vec<Node>, u8> {
+fn nodes_of(records: &[Record]) -> Result<Vec<Node>, Fault> {
     let mut nodes = Vec::new();
     let mut unjoined = Vec::new();
-    for record in records {
-        // before its body is looked at
-        if nodes.len() == MOST_NODES {
-            return Err(2);
-        }
-        if is_cut(record) || record.body[0] > MOST_LABEL {
-            return Err(1);
-        }
-        let children = if record.kind == BRANCH { Some(last_two(&mut unjoined)?) } else { None };
-        unjoined.push(nodes.len());
-        nodes.push(Node { label: record.body[0], children });
+    for (before, record) in records.iter().enumerate() {
+        add_node(record, &mut nodes, &mut unjoined).map_err(|number| Fault { number, before })?;
     }
     // no node is no subtree
     if unjoined.len() == 1 {
         Ok(nodes)
     } else {
-        Err(1)
+        Err(Fault { number: 1, before: records.len() })
     }
+}
+
+fn add_node(record: &Record, nodes: &mut Vec<Node>, unjoined: &mut Vec<usize>) -> Result<(), u8> {
+    // before its body is looked at
+    if nodes.len() == MOST_NODES {
+        return Err(2);
+    }
+    if is_cut(record) || record.body[0] > MOST_LABEL {
+        return Err(1);
+    }
+    let children = if record.kind == BRANCH { Some(last_two(unjoined)?) } else { None };
+    unjoined.push(nodes.len());
+    nodes.push(Node { label: record.body[0], children });
+    Ok(())
 }
 
 /// The last two unjoined subtrees, the older one left.
@@ -113,6 +144,15 @@ fn last_two(unjoined: &mut Vec<usize>) -> Result<(usize, usize), u8> {
     let right = unjoined.pop().ok_or(1)?;
     let left = unjoined.pop().ok_or(1)?;
     Ok((left, right))
+}
+
+/// Of a record that is a head, with its numbers in their ranges.
+fn arity_and_states(head: &Record) -> Option<(u8, u8)> {
+    if head.kind != HEAD || is_cut(head) {
+        return None;
+    }
+    let (arity, states) = (head.body[0], head.body[1]);
+    Some((arity, states)).filter(|_| (1..=4).contains(&arity) && (1..=16).contains(&states))
 }
 
 /// The kind and left side of a rule that is not cut.
@@ -126,17 +166,14 @@ fn left_side(rule: &Record) -> LeftSide {
 }
 
 impl Stream {
-    fn add_query(&mut self, records: &[Record]) -> Result<(), u8> {
-        let head = records.first().ok_or(3)?;
-        if head.kind != HEAD || is_cut(head) {
-            return Err(3);
-        }
-        let (arity, states) = (head.body[0], head.body[1]);
-        if !(1..=4).contains(&arity) || !(1..=16).contains(&states) {
-            return Err(3);
-        }
+    fn add_query(&mut self, records: &[Record]) -> Result<(), Fault> {
+        // the first record is at fault, or where there is none the input ends before a head
+        let (arity, states) = records.first().and_then(arity_and_states).ok_or(Fault { number: 3, before: 0 })?;
         self.arity = arity as usize;
-        records[1..].iter().try_for_each(|record| self.add_record(record, states))
+        for (before, record) in records.iter().enumerate().skip(1) {
+            self.add_record(record, states).map_err(|number| Fault { number, before })?;
+        }
+        Ok(())
     }
 
     /// In one record 3 before 4.

@@ -8,7 +8,7 @@ const MOST_MARKINGS: u64 = 1 << 28;
 fn text_of(input: &[u8]) -> String {
     let stream = match markings::read(input) {
         Ok(stream) => stream,
-        Err(number) => return format!("refused {number}\n"),
+        Err(refusal) => return format!("refused {} at {}\n", refusal.number, refusal.position),
     };
     if stream.markings() > MOST_MARKINGS {
         return format!("{} markings are too many to try\n", stream.markings());

@@ -3,7 +3,7 @@
 
 use crate::set::{Head, Record, Set, MOST_RECORDS, PRODUCT, UNION};
 use crate::stream::{read, Left, Query, Stream, Symbol};
-use crate::{work_after, written, After};
+use crate::{work_after, written, After, Refusal};
 
 /// A leaf of this label is a pad.
 const PAD: u8 = 0;
@@ -17,30 +17,32 @@ pub struct Needs {
 }
 
 /// A build: its answer, and work and table afterwards.
-pub fn build(input: &[u8], work: &[u64], table: &[Record]) -> After<Head, Vec<Record>> {
+pub type Built = After<Head, Vec<Record>, Refusal>;
+
+pub fn build(input: &[u8], work: &[u64], table: &[Record]) -> Built {
     let stream = match read(input) {
         Ok(stream) => stream,
-        Err(number) => return unchanged(number, work, table),
+        Err(refusal) => return unchanged(refusal, work, table),
     };
     let stated = stated_work(&stream);
     if work.len() < stated {
-        return unchanged(5, work, table);
+        return unchanged(Refusal::nowhere(5), work, table);
     }
     let made = make(&stream, MOST_RECORDS.min(table.len()));
     let lent = match &made {
         Ok((_, records)) => written(records, table),
         Err(_) => vec![Record::default(); table.len()],
     };
-    let answer = made.map(|(head, _)| head);
-    After { work: work_after(&answer, stated, work), answer, lent }
+    let work = work_after(&made, stated, work);
+    After { answer: made.map(|(head, _)| head).map_err(Refusal::nowhere), work, lent }
 }
 
 /// Refusals 1 to 5 change nothing.
-fn unchanged(number: u8, work: &[u64], table: &[Record]) -> After<Head, Vec<Record>> {
-    After { answer: Err(number), work: work.to_vec(), lent: table.to_vec() }
+fn unchanged(refusal: Refusal, work: &[u64], table: &[Record]) -> Built {
+    After { answer: Err(refusal), work: work.to_vec(), lent: table.to_vec() }
 }
 
-pub fn needs(input: &[u8]) -> Result<Needs, u8> {
+pub fn needs(input: &[u8]) -> Result<Needs, Refusal> {
     let stream = read(input)?;
     let records = make(&stream, MOST_RECORDS).ok().map(|(_, records)| records.len());
     Ok(Needs { work: stated_work(&stream), records })

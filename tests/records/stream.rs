@@ -1,6 +1,6 @@
-//! 'The input stream', read from its first byte to its last, and refusals 1 to 4.
+//! 'The input stream', read from its first byte to its last, and refusals 1 to 4, each with the position that request 2026-04 gives it.
 
-use crate::refuse_unless;
+use crate::{refuse_unless, Refusal};
 
 /// A tree record, with its label. Leaf label 5 and branch label 5 are different symbols.
 #[derive(Clone, Copy, Debug, PartialEq)]
@@ -55,35 +55,57 @@ impl Reader<'_> {
         self.at = from + N;
         Ok(body.try_into().unwrap())
     }
-}
 
-pub fn read(input: &[u8]) -> Result<Stream, u8> {
-    let mut reader = Reader { input, at: 0 };
-    let (tree, most_unjoined) = read_tree(&mut reader)?;
-    let mut query = read_head(&mut reader)?;
-    while let Some(kind) = reader.kind() {
-        query.read_record(kind, &mut reader)?;
+    /// What is read here begins where the reader stands, and that is the position where it is refused.
+    fn from_here<T>(&mut self, read: impl FnOnce(&mut Self) -> Result<T, u8>) -> Result<T, Refusal> {
+        let first = self.at;
+        read(self).map_err(|number| Refusal::at(first, number))
     }
-    Ok(Stream { tree, most_unjoined, query })
 }
 
-/// The tree, and the most subtrees ever unjoined.
-fn read_tree(reader: &mut Reader) -> Result<(Vec<Symbol>, usize), u8> {
-    let (mut tree, mut unjoined, mut most) = (Vec::new(), 0, 0);
+pub fn read(input: &[u8]) -> Result<Stream, Refusal> {
+    let mut reader = Reader { input, at: 0 };
+    let tree = read_tree(&mut reader)?;
+    // where the input ends before a head, its length
+    let mut query = reader.from_here(read_head)?;
+    while let Some(kind) = reader.kind() {
+        reader.from_here(|reader| query.read_record(kind, reader))?;
+    }
+    Ok(Stream { tree: tree.symbols, most_unjoined: tree.most_unjoined, query })
+}
+
+/// As far as it is read, with the subtrees unjoined now, and the most ever.
+#[derive(Default)]
+struct Tree {
+    symbols: Vec<Symbol>,
+    unjoined: usize,
+    most_unjoined: usize,
+}
+
+fn read_tree(reader: &mut Reader) -> Result<Tree, Refusal> {
+    let mut tree = Tree::default();
     while let Some(kind @ (1 | 2)) = reader.kind() {
-        refuse_unless(2, tree.len() < 4095)?;
+        reader.from_here(|reader| tree.read_record(kind, reader))?;
+    }
+    // nothing or several subtrees: the place where it ended
+    reader.from_here(|_| refuse_unless(1, tree.unjoined == 1))?;
+    Ok(tree)
+}
+
+impl Tree {
+    fn read_record(&mut self, kind: u8, reader: &mut Reader) -> Result<(), u8> {
+        refuse_unless(2, self.symbols.len() < 4095)?;
         let [label] = reader.body(1)?;
         refuse_unless(1, label <= 63)?;
         if kind == 2 {
-            refuse_unless(1, unjoined >= 2)?;
-            unjoined -= 2;
+            refuse_unless(1, self.unjoined >= 2)?;
+            self.unjoined -= 2;
         }
-        unjoined += 1;
-        most = most.max(unjoined);
-        tree.push(if kind == 1 { Symbol::Leaf(label) } else { Symbol::Branch(label) });
+        self.unjoined += 1;
+        self.most_unjoined = self.most_unjoined.max(self.unjoined);
+        self.symbols.push(if kind == 1 { Symbol::Leaf(label) } else { Symbol::Branch(label) });
+        Ok(())
     }
-    refuse_unless(1, unjoined == 1)?;
-    Ok((tree, most))
 }
 
 fn read_head(reader: &mut Reader) -> Result<Query, u8> {
