@@ -173,12 +173,16 @@ fn unless_refused<A>(number: u8, answer: A) -> Result<A, Refusal> {
 fn unless_refused_at<A>(position: usize, number: u8, answer: A) -> Result<A, Refusal> {
     match number {
         0 => Ok(answer),
-        _ => Err(refusals(position)[number as usize - 1]),
+        _ => Err(refusal(number, position)),
     }
 }
 
-/// By their numbers, from 1.
-fn refusals(position: usize) -> [Refusal; 15] {
+/// The refusal of a number, which is what it says itself. The library returns no other.
+fn refusal(number: u8, position: usize) -> Refusal {
+    all_refusals(position).into_iter().find(|refusal| refusal.number() == number).expect("a number from 1 to 15")
+}
+
+fn all_refusals(position: usize) -> [Refusal; 15] {
     [
         Refusal::Tree(position),
         Refusal::ManyNodes(position),

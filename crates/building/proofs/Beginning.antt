@@ -1,6 +1,6 @@
 -- The beginning of a build. First that a refusal of the tree, of the query or of the work is the build's, with a number up to 5; then
 -- that the building comes to the first node.
-use mathlib.Core.Bool.{Bool, cond, false, true}
+use mathlib.Core.Bool.{false, true}
 use mathlib.Core.List.{List, [], _++_, _∷_, append-nil}
 use mathlib.Core.Path.{_∙_, _≡_, ap, ap₂, refl, subst, subst₂, sym}
 use Prim.Native.Nat.{_*_, _+_, _-_, _<_, _^_, _≤_, min, ℕ}
@@ -9,7 +9,7 @@ use native.Mathlib.Omega.{arith}
 use borrow.Author.Tests.{lt-leb}
 use lib.ListN.{drop, length, length-drop, take}
 use lib.Seq.{drop-length}
-use Rattle.paper.specs.Refusals.{No, Test, answer, build, headFrom, madeFrom, no, nodesIn, numberIn, queryIn, queryPart, refused}
+use Rattle.paper.specs.Refusals.{No, Test, answer, build, headFrom, madeFrom, no, nodesIn, numberIn, queryIn, queryPart, refused, treeEnd}
 use Rattle.paper.specs.Refusals.{treePart, unless, workFor}
 use Rattle.paper.specs.Stream.{StreamRecord, behind, queryRecords, recordsOf, treeRecords}
 use Rattle.paper.specs.Tree.{mostUnjoined}
@@ -49,20 +49,20 @@ module _ (input : List ℕ) (workLength tableLength : ℕ) where
     query-refused {n} e = (
       unless-append (treePart (treeRecords (recordsOf input))) _ (headFrom input, madeFrom input) tree
           ∙ refused-append tests _ (queryFacts input (2 * nodesIn input)) (headFrom input, madeFrom input) reply,
-      omega (arith, says-refused ThreeOrFour tests (queryFacts input (2 * nodesIn input)) (query-says (behind 0 (treeRecords (recordsOf input))) (queryRecords (recordsOf input))) reply),
+      omega (arith, says-refused ThreeOrFour tests (queryFacts input (2 * nodesIn input)) (query-says (treeEnd input) (queryRecords (recordsOf input))) reply),
     )
       where
         tests : List Test
-        tests = queryPart (behind 0 (treeRecords (recordsOf input))) (queryRecords (recordsOf input))
+        tests = queryPart (treeEnd input) (queryRecords (recordsOf input))
 
         reply : unless tests (queryFacts input (2 * nodesIn input)) ≡ refused n
         reply = sym (reply-after-tree input tree) ∙ sym e
 
     -- of the work
-    work-refused : Passes (queryPart (behind 0 (treeRecords (recordsOf input))) (queryRecords (recordsOf input))) → workLength < workFor input → build input workLength tableLength ≡ refused (no 5)
+    work-refused : Passes (queryPart (treeEnd input) (queryRecords (recordsOf input))) → workLength < workFor input → build input workLength tableLength ≡ refused (no 5)
     work-refused query short =
         unless-append (treePart (treeRecords (recordsOf input))) _ (headFrom input, madeFrom input) tree
-        ∙ unless-append (queryPart (behind 0 (treeRecords (recordsOf input))) (queryRecords (recordsOf input))) _ (headFrom input, madeFrom input) query
+        ∙ unless-append (queryPart (treeEnd input) (queryRecords (recordsOf input))) _ (headFrom input, madeFrom input) query
         ∙ rw (lt-leb (workFor input) workLength short) refl
 
 -- ---- what was read

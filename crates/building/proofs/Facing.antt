@@ -7,13 +7,13 @@ use Prim.Native.Nat.{ℕ, _≤_, min}
 use native.Mathlib.Omega.{arith}
 use borrow.Author.Tests.{le-leb, ne-eqb}
 use lib.ListN.{length, drop, replicate}
-use Rattle.paper.specs.Answers.{noOf, saysBuilt, told}
+use Rattle.paper.specs.Answers.{noOfStream, saysBuilt, told}
 use Rattle.paper.specs.Records.{blankEntry}
 use Rattle.paper.specs.Refusals.{No, Reply, refused, build, numberIn, madeFrom, over, tableAfter, workAfter, workFor}
 use Rattle.paper.specs.declared.Built.{Built}
 use Rattle.paper.specs.declared.Built.the-variants.{Refused}
 use Rattle.paper.specs.declared.Head.{Head}
-use Rattle.paper.specs.declared.Refusal.{Refusal}
+use Rattle.paper.specs.declared.StreamRefusal.{StreamRefusal}
 use Rattle.building.specs.Batch.{Record, Set}
 use Rattle.building.specs.Bounds.{batchNumbers, mostRecords}
 use Rattle.building.specs.Driving.{Ready, Driven}
@@ -31,15 +31,15 @@ early-work n asked work early = rw (le-leb (numberIn n) 5 early)
 early-table : (n : No) (table : List Record) → numberIn n ≤ 5 → table ≡ tableAfter (refused n) table
 early-table n table early = rw (ne-eqb (numberIn n) 6 (λ e. omega (arith, e, early)))
 
-pub refused-face : (input work : List ℕ) (table : List Record) (r : Refusal) (work′ lists : List ℕ)
+pub refused-face : (input work : List ℕ) (table : List Record) (r : StreamRefusal) (work′ lists : List ℕ)
     → Begins input work (length table) (BegunIs.Refused r) work′ lists → Builds input work table (Refused r) work′ table
 refused-face input work table r work′ lists (reply, early, same) = record {
   answer = ap (told (λ a. a .0)) (sym reply);
   worked =
       same
-      ∙ early-work (noOf r) (workFor input) work early
+      ∙ early-work (noOfStream r) (workFor input) work early
       ∙ ap (λ (x : Reply (Head × List Record)). workAfter x (workFor input) work) (sym reply);
-  written = early-table (noOf r) table early ∙ ap (λ (x : Reply (Head × List Record)). tableAfter x table) (sym reply);
+  written = early-table (noOfStream r) table early ∙ ap (λ (x : Reply (Head × List Record)). tableAfter x table) (sym reply);
 }
 
 -- ---- begun

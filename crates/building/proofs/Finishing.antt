@@ -9,8 +9,8 @@ use lib.ListN.{drop, length, length-replicate, replicate}
 use lib.Pow.{pow-pos}
 use lib.Seq.{paste, take-all}
 use Rattle.paper.specs.Answers.{told}
-use Rattle.paper.specs.Refusals.{answer, build, headFrom, madeFrom, over, queryPart, refused, treePart, workAfter, workFor, no}
-use Rattle.paper.specs.Stream.{behind, queryRecords, recordsOf, treeRecords}
+use Rattle.paper.specs.Refusals.{answer, build, headFrom, madeFrom, over, queryPart, refused, treePart, workAfter, workFor, no, treeEnd}
+use Rattle.paper.specs.Stream.{queryRecords, recordsOf, treeRecords}
 use Rattle.laws.proofs.ReadTree.{tree-read}
 use Rattle.laws.proofs.Replies.{Passes, unless-append}
 use Rattle.laws.specs.Plain.{Head}
@@ -34,7 +34,7 @@ module _ (input : List ℕ) (t : State) (all : List Record) (s : Stopped input t
   tree : Passes (treePart (treeRecords (recordsOf input)))
   tree = tree-passes input (s .constants .tree)
 
-  query : Passes (queryPart (behind 0 (treeRecords (recordsOf input))) (queryRecords (recordsOf input)))
+  query : Passes (queryPart (treeEnd input) (queryRecords (recordsOf input)))
   query = query-part-passes input (s .constants .query) tree
 
   pub head-fits : t .over ≡ false → HeadFits t
@@ -63,7 +63,7 @@ module _ (input : List ℕ) (t : State) (all : List Record) (s : Stopped input t
         let d = s .done e in
         let used : length (madeFrom input) ≡ t .from + t .count = ap (λ z. length (z .0)) (d .made) ∙ d .used in
         unless-append (treePart (treeRecords (recordsOf input))) _ (headFrom input, madeFrom input) tree
-        ∙ unless-append (queryPart (behind 0 (treeRecords (recordsOf input))) (queryRecords (recordsOf input))) _ (headFrom input, madeFrom input) query
+        ∙ unless-append (queryPart (treeEnd input) (queryRecords (recordsOf input))) _ (headFrom input, madeFrom input) query
         ∙ rw (
           le-leb (workFor input) (length first) (omega (arith, s .constants .asked)),
           le-leb (length (madeFrom input)) entries (omega (arith, d .few)),

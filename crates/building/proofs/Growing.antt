@@ -14,7 +14,7 @@ use Rattle.paper.specs.Building.{Slots, Split, acceptStep, allPlaces, branchSte
 use Rattle.paper.specs.Lists.{has, through, upTo}
 use Rattle.paper.specs.Query.{Query, Rule, branchRule, leafRule}
 use Rattle.paper.specs.Records.{productOf, singleOf, unionOf}
-use Rattle.paper.specs.Refusals.{Test, answer, build, headFrom, madeFrom, queryPart, refused, treePart, workFor, no}
+use Rattle.paper.specs.Refusals.{Test, answer, build, headFrom, madeFrom, queryPart, refused, treePart, workFor, no, treeEnd}
 use Rattle.paper.specs.Stream.{StreamRecord, behind, number, queryRecords, recordsOf, treeRecords}
 use Rattle.paper.specs.Tree.{Tree, root, treeOf}
 use Rattle.laws.proofs.Replies.{Passes, unless-append}
@@ -157,11 +157,11 @@ module _ (Q : Query) (records : List StreamRecord) (p : Passes (treePart records
 -- ---- the refusal
 -- a stream that is fine, with work enough, is refused with 6 where more records than fit are made, at the end or before
 pub grows-refused : (input : List ℕ) (workLength tableLength : ℕ) → Passes (treePart (treeRecords (recordsOf input)))
-    → Passes (queryPart (behind 0 (treeRecords (recordsOf input))) (queryRecords (recordsOf input))) → workFor input ≤ workLength
+    → Passes (queryPart (treeEnd input) (queryRecords (recordsOf input))) → workFor input ≤ workLength
     → {s : List Record} → Grows s (madeFrom input) → min tableLength mostRecords < length s → build input workLength tableLength ≡ refused (no 6)
 grows-refused input workLength tableLength tree query work g many =
-    unless-append (treePart (treeRecords (recordsOf input))) (queryPart (behind 0 (treeRecords (recordsOf input))) (queryRecords (recordsOf input)) ++ room) built tree
-    ∙ unless-append (queryPart (behind 0 (treeRecords (recordsOf input))) (queryRecords (recordsOf input))) room built query
+    unless-append (treePart (treeRecords (recordsOf input))) (queryPart (treeEnd input) (queryRecords (recordsOf input)) ++ room) built tree
+    ∙ unless-append (queryPart (treeEnd input) (queryRecords (recordsOf input))) room built query
     ∙ rw (le-leb (workFor input) workLength work) (go (leb used tableLength) (leb used mostRecords) refl refl)
   where
     built : Head × List Record

@@ -9,7 +9,7 @@ use lib.Dec.{leb}
 use lib.ListN.{drop}
 use Rattle.paper.specs.Lists.{_∈_}
 use Rattle.paper.specs.Query.{acceptingOf, queryOf, rulesOf}
-use Rattle.paper.specs.Refusals.{answer, atEach, headTests, nodesIn, queryEndTests, queryIn, queryPart, queryTests, testsAt, treePart}
+use Rattle.paper.specs.Refusals.{answer, atEach, headTests, nodesIn, queryEndTests, queryIn, queryPart, queryTests, testsAt, treePart, treeEnd}
 use Rattle.paper.specs.Stream.{StreamRecord, behind, number, queryRecords, recordsOf, treeRecords, whole}
 use Rattle.laws.proofs.AtEach.{at-passes, part-each}
 use Rattle.laws.proofs.Lists.{both-true}
@@ -42,7 +42,7 @@ module _ (input : List ℕ) (query : queryReply input (2 * nodesIn input) ≡ an
       (answered (queryPart from (recordsOf (drop from input))) query .0)
 
   pub query-part-passes : Passes (treePart (treeRecords (recordsOf input)))
-      → Passes (queryPart (behind 0 (treeRecords (recordsOf input))) (queryRecords (recordsOf input)))
+      → Passes (queryPart (treeEnd input) (queryRecords (recordsOf input)))
   query-part-passes tree = answered (queryPart _ (queryRecords (recordsOf input))) (sym (reply-after-tree input tree) ∙ query) .0
 
   head-passes : Passes (headTests (headRecord input))

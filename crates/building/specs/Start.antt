@@ -3,8 +3,8 @@ use mathlib.Core.List.{List, []}
 use mathlib.Core.Path.{_≡_}
 use Prim.Native.Nat.{ℕ, _≤_, min}
 use lib.ListN.{length, drop}
-use Rattle.paper.specs.Refusals.{build, refused}
-use Rattle.paper.specs.Answers.{numberOf, noOf}
+use Rattle.paper.specs.Refusals.{build, numberIn, refused}
+use Rattle.paper.specs.Answers.{noOfStream}
 use Rattle.building.specs.Bounds.{mostRecords}
 use Rattle.building.specs.Listed.{Listed}
 use Rattle.building.specs.Standing.{Standing, State}
@@ -23,4 +23,4 @@ pub record Started (input work : List ℕ) (tableLength : ℕ) (t : State) (work
 abbrev pub Begins : List ℕ → List ℕ → ℕ → Begun → List ℕ → List ℕ → Type 0
 Begins input work tableLength (BegunIs.Going t) work′ lists = Started input work tableLength t work′ lists
 Begins input work tableLength (BegunIs.Refused why) work′ lists =
-    (build input (length work) tableLength ≡ refused (noOf why)) × (numberOf why ≤ 5) × (work′ ≡ work)
+    (build input (length work) tableLength ≡ refused (noOfStream why)) × (numberIn (noOfStream why) ≤ 5) × (work′ ≡ work)

@@ -7,6 +7,7 @@ use crate::state::State;
 use paper::Built;
 use paper::Head;
 use paper::Refusal;
+use paper::StreamRefusal;
 use table::set_of;
 
 // The work is cleared either way, as far as it was asked for: what is behind that was never touched.
@@ -16,7 +17,7 @@ pub(crate) fn finish(t: State, work: &mut [u64]) -> Built
 {
     clear(&mut *work, 0, t.asked as usize);
     if t.over {
-        return Built::Refused(Refusal::ShortTable);
+        return Built::Refused(StreamRefusal::Other(Refusal::ShortTable));
     }
     // No place is fixed yet: all are open.
     let open_places = flags(t.arity) - 1;

@@ -15,6 +15,7 @@ use crate::splits::NOTE_NUMBERS;
 use crate::splits::note;
 use crate::state::State;
 use paper::Refusal;
+use paper::StreamRefusal;
 use paper::limits::MOST_RECORDS;
 use stream::LIST_NUMBERS;
 use stream::QueryFacts;
@@ -32,7 +33,7 @@ pub(crate) const LOOKUP_NUMBERS: usize = LIST_NUMBERS + NOTE_NUMBERS;
 // The building stands at its first node, or is refused with 1 to 5.
 pub(crate) enum Begun {
     Going(State),
-    Refused(Refusal),
+    Refused(StreamRefusal),
 }
 
 // How many records fit in a table of so many entries.
@@ -65,7 +66,7 @@ fn start(
     // frames of at most 256 numbers: a usize holds far more.
     let asked = (1 + tree.most) * frame_width(query.arity, query.states);
     if work.len() < asked {
-        return Begun::Refused(Refusal::ShortWork);
+        return Begun::Refused(StreamRefusal::Other(Refusal::ShortWork));
     }
     // The first rule of the first node `start_node` looks up.
     let t = State {

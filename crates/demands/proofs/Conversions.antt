@@ -8,7 +8,7 @@ use native.Mathlib.Omega.{arith}
 use lib.ListN.{length}
 use Rattle.paper.specs.declared.Converted.{Converted}
 use Rattle.paper.specs.declared.Converted.the-variants as ConvertedIs
-use Rattle.paper.specs.Answers.{saysConverted, told}
+use Rattle.paper.specs.Answers.{noOf, saysConverted, told}
 use Rattle.paper.specs.BracketedText.{Writes}
 use Rattle.paper.specs.CanonicalText.{textOf}
 use Rattle.paper.specs.Conversions.{Conversion, Images, no-room, of-none, the-result}
@@ -66,9 +66,9 @@ module _ (Of : WrittenTree → Type 0) (result : WrittenTree → List ℕ) (one-
   )
 
   exact : (r : Converted) (out′ : List ℕ) → Converts (Conversion Of result (length out)) out r out′
-      → Exact ConvertedIs.Refused r (Alone (FirstOf conversionOrder (Cause Of result (length out)))) (NoneOf conversionOrder (Cause Of result (length out)))
+      → Exact noOf ConvertedIs.Refused r (Alone (FirstOf conversionOrder (Cause Of result (length out)))) (NoneOf conversionOrder (Cause Of result (length out)))
   exact r out′ c =
-      exact-reply ConvertedIs.Refused saysConverted (λ why. refl) converted-cases length (c .reply) r (c .answer)
+      exact-reply noOf ConvertedIs.Refused saysConverted (λ why. refl) converted-cases length (c .reply) r (c .answer)
       (λ n. (
         λ e. refuses Of result (length out) n (subst (Conversion Of result (length out)) e (c .right)),
         λ f. one-right Of result one-of (length out) (c .reply) (refused n) (c .right) (first Of result (length out) n f),
@@ -88,7 +88,7 @@ module _ (text out : List ℕ) where
   one-text-to-tree = one-conversion (Writes text) imageBytes (one-tree text) out
 
   pub text-to-tree-exact : (r : Converted) (out′ : List ℕ) → MakesTree text out r out′
-      → Exact ConvertedIs.Refused r (Alone (FirstOf conversionOrder (TreeCause text (length out)))) (NoneOf conversionOrder (TreeCause text (length out)))
+      → Exact noOf ConvertedIs.Refused r (Alone (FirstOf conversionOrder (TreeCause text (length out)))) (NoneOf conversionOrder (TreeCause text (length out)))
   text-to-tree-exact = exact (Writes text) imageBytes (one-tree text) out
 
 -- ---- tree to text
@@ -97,5 +97,5 @@ module _ (bytes out : List ℕ) where
   one-tree-to-text = one-conversion (Images bytes) textOf (one-image bytes) out
 
   pub tree-to-text-exact : (r : Converted) (out′ : List ℕ) → MakesText bytes out r out′
-      → Exact ConvertedIs.Refused r (Alone (FirstOf conversionOrder (TextCause bytes (length out)))) (NoneOf conversionOrder (TextCause bytes (length out)))
+      → Exact noOf ConvertedIs.Refused r (Alone (FirstOf conversionOrder (TextCause bytes (length out)))) (NoneOf conversionOrder (TextCause bytes (length out)))
   tree-to-text-exact = exact (Images bytes) textOf (one-image bytes) out

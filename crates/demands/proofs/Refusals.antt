@@ -1,5 +1,6 @@
 -- Demand 1 of the functions: a call, known by its contract alone, returns a number exactly if that is the first in the paper's order
--- whose cause applies, with 1 to 4 at the position of the record at fault, and answers exactly if no cause does. First one law for every answer enum, then the six functions of document 01.
+-- whose cause applies, with 1 to 4 at the position of the record at fault, and answers exactly if no cause does.
+-- First one law for every answer enum, then the six functions of document 01.
 use mathlib.Core.List.{List}
 use mathlib.Core.Logic.{Iff·trans, _↔_, _⊎_, inl, inr, ⊎-elim}
 use mathlib.Core.Path.{_∙_, _≡_, ap, refl, sym}
@@ -17,10 +18,9 @@ use Rattle.paper.specs.declared.Member.the-variants as MemberIs
 use Rattle.paper.specs.declared.Projected.{Projected}
 use Rattle.paper.specs.declared.Projected.the-variants as ProjectedIs
 use Rattle.paper.specs.declared.Record.{Record}
-use Rattle.paper.specs.declared.Refusal.{Refusal}
 use Rattle.paper.specs.declared.Written.{Written}
 use Rattle.paper.specs.declared.Written.the-variants as WrittenIs
-use Rattle.paper.specs.Answers.{noOf, saysBuilt, saysCounted, saysFixed, saysMember, saysProjected, saysWritten, told}
+use Rattle.paper.specs.Answers.{noOf, noOfStream, saysBuilt, saysCounted, saysFixed, saysMember, saysProjected, saysWritten, told}
 use Rattle.paper.specs.Refusals.{No, Reply, Test, answer, askTests, buildTests, fixTests, memberTests, projectTests, refused, rowTests, unless}
 use Rattle.paper.specs.Row.{Row}
 use Rattle.laws.specs.First.{NoneOf}
@@ -39,8 +39,8 @@ use Rattle.demands.specs.Refused.{Answered, Exact, ExactQuestion, Return
 
 -- ---- the law
 -- of a result by what it says: it is a refusal, or it says an answer
-abbrev pub Told : {Result A : Type 0} → (Refusal → Result) → (Result → Reply A) → Result → Type 0
-Told {A = A} Refused says r = ((why : Refusal) × (r ≡ Refused why)) ⊎ ((a : A) × (says r ≡ answer a))
+abbrev pub Told : {Why Result A : Type 0} → (Why → Result) → (Result → Reply A) → Result → Type 0
+Told {Why} {A = A} Refused says r = ((why : Why) × (r ≡ Refused why)) ⊎ ((a : A) × (says r ≡ answer a))
 
 -- what is told of an answer is an answer, and of a refusal the refusal
 pub told-refused : {A B : Type 0} (f : A → B) (reply : Reply A) (n : No) → (told f reply ≡ refused n) ↔ (reply ≡ refused n)
@@ -56,19 +56,19 @@ told-same (refused n) = refl
 told-same (answer a) = refl
 
 -- a result that says what a reply is, where that is exact
-module _ {Result A B : Type 0} (Refused : Refusal → Result) (says : Result → Reply B) (refuses : (why : Refusal) → says (Refused why) ≡ refused (noOf why))
-    (cases : (r : Result) → Told Refused says r) where
+module _ {Why Result A B : Type 0} (number : Why → No) (Refused : Why → Result) (says : Result → Reply B)
+    (refuses : (why : Why) → says (Refused why) ≡ refused (number why)) (cases : (r : Result) → Told Refused says r) where
   pub exact-reply : (f : A → B) (reply : Reply A) (r : Result) → says r ≡ told f reply → {First : No → Type 0} {None : Type 0}
-      → ((n : No) → (reply ≡ refused n) ↔ First n) → ((a : A) × (reply ≡ answer a)) ↔ None → Exact Refused r First None
+      → ((n : No) → (reply ≡ refused n) ↔ First n) → ((a : A) × (reply ≡ answer a)) ↔ None → Exact number Refused r First None
   exact-reply f reply r is {First} {None} firsts none = record {
     returns = λ n. Iff·trans (returned n) (Iff·trans (told-refused f reply n) (firsts n));
     answers = Iff·trans (λ w. given (cases r) w, λ (a, e) why q. refused-not-answer (sym (refuses why) ∙ ap says (sym q) ∙ is ∙ ap (told f) e)) none;
   }
     where
       -- what is returned is what is said
-      returned : (n : No) → Returns Refused r n ↔ (told f reply ≡ refused n)
+      returned : (n : No) → Returns number Refused r n ↔ (told f reply ≡ refused n)
       returned n = (
-        λ (why, e, number). sym is ∙ ap says e ∙ refuses why ∙ ap refused number,
+        λ (why, e, said). sym is ∙ ap says e ∙ refuses why ∙ ap refused said,
         λ e. ⊎-elim
             (λ (why, q). (why, q, refused-inj (sym (refuses why) ∙ ap says (sym q) ∙ is ∙ e)))
             (λ (b, q). absurd (refused-not-answer (sym (is ∙ e) ∙ q)))
@@ -76,13 +76,13 @@ module _ {Result A B : Type 0} (Refused : Refusal → Result) (says : Result →
       )
 
       -- an answer said is the answer
-      given : Told Refused says r → Answered Refused r → (a : A) × (reply ≡ answer a)
+      given : Told Refused says r → Answered number Refused r → (a : A) × (reply ≡ answer a)
       given (inl (why, q)) w = absurd (w why q)
       given (inr (b, q)) w = told-answer f reply b (sym is ∙ q)
 
   -- and what tests in an order come to
   exact : (f : A → B) (ts : List Test) (a : A) (r : Result) → says r ≡ told f (unless ts a) → {First : No → Type 0} {None : Type 0}
-      → ((n : No) → (unless ts a ≡ refused n) ↔ First n) → (unless ts a ≡ answer a) ↔ None → Exact Refused r First None
+      → ((n : No) → (unless ts a ≡ refused n) ↔ First n) → (unless ts a ≡ answer a) ↔ None → Exact number Refused r First None
   exact f ts a r is firsts none =
       exact-reply f (unless ts a) r is firsts (Iff·trans (λ (b, e). e ∙ ap answer (sym (answered ts e .1)), λ e. (a, e)) none)
 
@@ -92,10 +92,10 @@ built-cases (BuiltIs.Set h) = inr (h, refl)
 built-cases (BuiltIs.Refused why) = inl (why, refl)
 
 pub build-exact : (input work work′ : List ℕ) (table table′ : List Record) (r : Built) → Builds input work table r work′ table′
-    → Exact BuiltIs.Refused r (BuildRefused input (length work) (length table))
+    → Exact noOfStream BuiltIs.Refused r (BuildRefused input (length work) (length table))
     (StreamFine input × NoneOf buildOrder (BuildCause input (length work) (length table)))
 build-exact input work work′ table table′ r c =
-    exact BuiltIs.Refused saysBuilt (λ why. refl) built-cases (λ a. a .0) (buildTests input (length work) (length table)) _ r (c .answer)
+    exact noOfStream BuiltIs.Refused saysBuilt (λ why. refl) built-cases (λ a. a .0) (buildTests input (length work) (length table)) _ r (c .answer)
     (build-refused input (length work) (length table)) (build-answers input (length work) (length table))
 
 -- ---- the questions
@@ -122,31 +122,31 @@ fixed-cases (FixedIs.Refused why) = inl (why, refl)
 
 module _ (h : Head) (table : List Record) (work work′ : List ℕ) where
   pub count-exact : (r : Counted) → Counts h table work r work′
-      → ExactQuestion CountedIs.Refused r (CountCause h table (length work))
+      → ExactQuestion noOf CountedIs.Refused r (CountCause h table (length work))
   count-exact r c =
-      exact CountedIs.Refused saysCounted (λ why. refl) counted-cases (λ a. a) (askTests h table (length work)) _ r (c .answer ∙ told-same _)
+      exact noOf CountedIs.Refused saysCounted (λ why. refl) counted-cases (λ a. a) (askTests h table (length work)) _ r (c .answer ∙ told-same _)
       (count-refused h table (length work)) (count-answers h table (length work))
 
   pub row-exact : (k : ℕ) (out out′ : List ℕ) (r : Written) → Numbers h table work k out r work′ out′
-      → ExactQuestion WrittenIs.Refused r (NumberCause h table (length work) k (length out))
+      → ExactQuestion noOf WrittenIs.Refused r (NumberCause h table (length work) k (length out))
   row-exact k out out′ r c =
-      exact WrittenIs.Refused saysWritten (λ why. refl) written-cases (λ a. tt) (rowTests h table (length work) k (length out)) _ r (c .answer)
+      exact noOf WrittenIs.Refused saysWritten (λ why. refl) written-cases (λ a. tt) (rowTests h table (length work) k (length out)) _ r (c .answer)
       (rowByNumber-refused h table (length work) k (length out)) (rowByNumber-answers h table (length work) k (length out))
 
   pub member-exact : (row : Row) (r : Member) → Members h table work row r work′
-      → ExactQuestion MemberIs.Refused r (MemberCause h table (length work) row)
+      → ExactQuestion noOf MemberIs.Refused r (MemberCause h table (length work) row)
   member-exact row r c =
-      exact MemberIs.Refused saysMember (λ why. refl) member-cases (λ a. a) (memberTests h table (length work) row) _ r (c .answer ∙ told-same _)
+      exact noOf MemberIs.Refused saysMember (λ why. refl) member-cases (λ a. a) (memberTests h table (length work) row) _ r (c .answer ∙ told-same _)
       (member-refused h table (length work) row) (member-answers h table (length work) row)
 
   pub project-exact : (place : ℕ) (out out′ : List ℕ) (r : Projected) → Projects h table work place out r work′ out′
-      → ExactQuestion ProjectedIs.Refused r (ProjectCause h table (length work) place (length out))
+      → ExactQuestion noOf ProjectedIs.Refused r (ProjectCause h table (length work) place (length out))
   project-exact place out out′ r c =
-      exact ProjectedIs.Refused saysProjected (λ why. refl) projected-cases (λ a. tt) (projectTests h table (length work) place (length out)) _ r (c .answer)
+      exact noOf ProjectedIs.Refused saysProjected (λ why. refl) projected-cases (λ a. tt) (projectTests h table (length work) place (length out)) _ r (c .answer)
       (project-refused h table (length work) place (length out)) (project-answers h table (length work) place (length out))
 
   pub fix-exact : (place node : ℕ) (target target′ : List Record) (r : Fixed) → Fixes h table work place node target r work′ target′
-      → ExactQuestion FixedIs.Refused r (FixCause h table (length work) place node (length target))
+      → ExactQuestion noOf FixedIs.Refused r (FixCause h table (length work) place node (length target))
   fix-exact place node target target′ r c =
-      exact FixedIs.Refused saysFixed (λ why. refl) fixed-cases (λ a. a .0) (fixTests h table (length work) place node (length target)) _ r (c .answer)
+      exact noOf FixedIs.Refused saysFixed (λ why. refl) fixed-cases (λ a. a .0) (fixTests h table (length work) place node (length target)) _ r (c .answer)
       (fix-refused h table (length work) place node (length target)) (fix-answers h table (length work) place node (length target))

@@ -11,7 +11,7 @@ use Rattle.paper.specs.declared.Built.the-variants as BuiltIs
 use Rattle.paper.specs.declared.Converted.{Converted}
 use Rattle.paper.specs.declared.Converted.the-variants as ConvertedIs
 use Rattle.paper.specs.declared.Record.{Record}
-use Rattle.paper.specs.Answers.{saysBuilt, saysConverted, told}
+use Rattle.paper.specs.Answers.{noOf, noOfStream, saysBuilt, saysConverted, told}
 use Rattle.paper.specs.BracketedText.{Writes}
 use Rattle.paper.specs.CanonicalText.{textOf}
 use Rattle.paper.specs.Conversions.{Conversion, Images, no-room, of-none, the-result}
@@ -58,7 +58,7 @@ module _ (Of : WrittenTree → Type 0) (result : WrittenTree → List ℕ) (out 
 
   -- an output that no result is longer than is never refused
   roomy : ((w : WrittenTree) → Of w → length (result w) ≤ length out) → (r : Converted) (out′ : List ℕ)
-      → Converts (Conversion Of result (length out)) out r out′ → Returns ConvertedIs.Refused r (no 10) → ⊥
+      → Converts (Conversion Of result (length out)) out r out′ → Returns noOf ConvertedIs.Refused r (no 10) → ⊥
   roomy fits r out′ c (why, e, number) =
       go (c .reply) (c .right) (told-refused length (c .reply) (no 10) .0 (sym (c .answer) ∙ ap saysConverted e ∙ ap refused number))
     where
@@ -102,7 +102,7 @@ binary-text-binary bytes text text′ n c out r out′ d fits =
 -- a tree that was typed is one that `build` reads, with any query behind it that begins with none of the tree's kinds: never 1 or 2
 pub typed-tree-built : (text tree tree′ : List ℕ) (n : ℕ) → MakesTree text tree (ConvertedIs.Bytes n) tree′ → (query : List ℕ)
     → treeRecords (recordsOf query) ≡ [] → (work work′ : List ℕ) (table table′ : List Record) (r : Built)
-    → Builds (take n tree′ ++ query) work table r work′ table′ → (m : No) → Returns BuiltIs.Refused r m → 3 ≤ numberIn m
+    → Builds (take n tree′ ++ query) work table r work′ table′ → (m : No) → Returns noOfStream BuiltIs.Refused r m → 3 ≤ numberIn m
 typed-tree-built text tree tree′ n c query begins work work′ table table′ r d m (why, e, number) =
     let a = the-answer (Writes text) imageBytes tree n tree′ c in
     typed-never-refused (a .tree) (writes-allowed text (a .tree) (a .of-tree)) query begins (length work) (length table) m
@@ -112,9 +112,9 @@ typed-tree-built text tree tree′ n c query begins work work′ table table′ 
 
 -- ---- outputs that always suffice
 pub tree-room : (text out : List ℕ) → 8190 ≤ length out → (r : Converted) (out′ : List ℕ) → MakesTree text out r out′
-    → Returns ConvertedIs.Refused r (no 10) → ⊥
+    → Returns noOf ConvertedIs.Refused r (no 10) → ⊥
 tree-room text out long = roomy (Writes text) imageBytes out (λ w g. omega (arith, image-short w (writes-allowed text w g)))
 
 pub text-room : (bytes out : List ℕ) → 8188 ≤ length out → (r : Converted) (out′ : List ℕ) → MakesText bytes out r out′
-    → Returns ConvertedIs.Refused r (no 10) → ⊥
+    → Returns noOf ConvertedIs.Refused r (no 10) → ⊥
 text-room bytes out long = roomy (Images bytes) textOf out (λ w g. omega (arith, text-short w (g .allowed)))

@@ -3,20 +3,19 @@
 use mathlib.Core.Logic.{_↔_}
 use mathlib.Core.Path.{_≡_}
 use Prim.Native.Nat.{ℕ}
-use Rattle.paper.specs.declared.Refusal.{Refusal}
-use Rattle.paper.specs.Answers.{noOf}
 use Rattle.paper.specs.Refusals.{No}
 use Rattle.laws.specs.First.{Alone, FirstOf, NoneOf}
 use Rattle.laws.specs.QuestionCauses.{questionOrder}
 
-module _ {Result : Type 0} (Refused : Refusal → Result) where
+-- over the refusals of the enum, and what each says
+module _ {Why Result : Type 0} (says : Why → No) (Refused : Why → Result) where
   -- the result is a refusal that says this
   abbrev pub Returns : Result → No → Type 0
-  Returns r w = (why : Refusal) × (r ≡ Refused why) × (noOf why ≡ w)
+  Returns r w = (why : Why) × (r ≡ Refused why) × (says why ≡ w)
 
   -- the result is no refusal
   abbrev pub Answered : Result → Type 0
-  Answered r = (why : Refusal) → r ≡ Refused why → ⊥
+  Answered r = (why : Why) → r ≡ Refused why → ⊥
 
   -- the call returned a refusal exactly if it is that of the first cause that applies, and an answer exactly if no cause does
   pub record Exact (r : Result) (First : No → Type 0) (None : Type 0) : Type 0 where

@@ -13,7 +13,9 @@ use Rattle.paper.specs.declared.Head.{Head}
 use Rattle.paper.specs.declared.Member.the-variants as MemberIs
 use Rattle.paper.specs.declared.Projected.the-variants as ProjectedIs
 use Rattle.paper.specs.declared.Refusal.{Refusal}
-use Rattle.paper.specs.declared.Refusal.the-variants.{LongInput, ManyNodes, Node, NotSound, Place, Query, RowLength, RowNumber, ShortOutput, ShortTable, ShortWork, Text, Tree, Twice, UnitTwice}
+use Rattle.paper.specs.declared.Refusal.the-variants.{LongInput, Node, NotSound, Place, RowLength, RowNumber, ShortOutput, ShortTable, ShortWork, Text, UnitTwice}
+use Rattle.paper.specs.declared.StreamRefusal.{StreamRefusal}
+use Rattle.paper.specs.declared.StreamRefusal.the-variants.{ManyNodes, Other, Query, Tree, Twice}
 use Rattle.paper.specs.declared.Written.the-variants as WrittenIs
 use Rattle.paper.specs.declared.Built.{Built}
 use Rattle.paper.specs.declared.Converted.{Converted}
@@ -22,26 +24,29 @@ use Rattle.paper.specs.declared.Fixed.{Fixed}
 use Rattle.paper.specs.declared.Member.{Member}
 use Rattle.paper.specs.declared.Projected.{Projected}
 use Rattle.paper.specs.declared.Written.{Written}
-use Rattle.paper.specs.Answers.{noOf, saysBuilt, saysConverted, saysCounted, saysFixed, saysMember, saysProjected, saysWritten}
-use Rattle.paper.specs.Refusals.{No, Reply, answer, no, noAt, refused}
+use Rattle.paper.specs.Answers.{noOf, noOfStream, saysBuilt, saysConverted, saysCounted, saysFixed, saysMember, saysProjected, saysWritten}
+use Rattle.paper.specs.Refusals.{No, Reply, answer, no, noAt, numberIn, refused}
 
 -- what is said, read back, is the answer: so two answers that say the same are one
 pub told-apart : {A S : Type 0} (says : A → S) (back : S → A) → ((a : A) → back (says a) ≡ a) → (a b : A) → says a ≡ says b → a ≡ b
 told-apart says back reads a b e = sym (reads a) ∙ ap back e ∙ reads b
 
 -- ---- refusals
--- the refusal that says this: 1 to 4 with a position, the others from 5 on alone
-abbrev pub refusalOf : No → Refusal
-refusalOf (noAt n p) = getD (Tree p ∷ ManyNodes p ∷ Query p ∷ Twice p ∷ []) (n - 1) (Tree p)
-refusalOf (no n) =
+-- the refusal of a number
+abbrev numbered : ℕ → Refusal
+numbered n =
     getD (ShortWork ∷ ShortTable ∷ Place ∷ Node ∷ RowNumber ∷ ShortOutput ∷ NotSound ∷ UnitTwice ∷ RowLength ∷ LongInput ∷ Text ∷ []) (n - 5)
     ShortWork
 
+-- and the one that says this, 1 to 4 with a position and the others alone
+abbrev pub refusalOf : No → Refusal
+refusalOf w = numbered (numberIn w)
+
+abbrev pub streamRefusalOf : No → StreamRefusal
+streamRefusalOf (noAt n p) = getD (Tree p ∷ ManyNodes p ∷ Query p ∷ Twice p ∷ []) (n - 1) (Tree p)
+streamRefusalOf (no n) = Other (numbered n)
+
 pub refusal-told : (r : Refusal) → refusalOf (noOf r) ≡ r
-refusal-told (Tree p) = refl
-refusal-told (ManyNodes p) = refl
-refusal-told (Query p) = refl
-refusal-told (Twice p) = refl
 refusal-told ShortWork = refl
 refusal-told ShortTable = refl
 refusal-told Place = refl
@@ -54,9 +59,16 @@ refusal-told RowLength = refl
 refusal-told LongInput = refl
 refusal-told Text = refl
 
+pub stream-refusal-told : (r : StreamRefusal) → streamRefusalOf (noOfStream r) ≡ r
+stream-refusal-told (Tree p) = refl
+stream-refusal-told (ManyNodes p) = refl
+stream-refusal-told (Query p) = refl
+stream-refusal-told (Twice p) = refl
+stream-refusal-told (Other r) = ap Other (refusal-told r)
+
 -- ---- the answers
 abbrev builtOf : Reply Head → Built
-builtOf (refused n) = BuiltIs.Refused (refusalOf n)
+builtOf (refused n) = BuiltIs.Refused (streamRefusalOf n)
 builtOf (answer h) = BuiltIs.Set h
 
 pub one-built : (a b : Built) → saysBuilt a ≡ saysBuilt b → a ≡ b
@@ -64,7 +76,7 @@ one-built = told-apart saysBuilt builtOf reads
   where
     reads : (a : Built) → builtOf (saysBuilt a) ≡ a
     reads (BuiltIs.Set h) = refl
-    reads (BuiltIs.Refused r) = ap BuiltIs.Refused (refusal-told r)
+    reads (BuiltIs.Refused r) = ap BuiltIs.Refused (stream-refusal-told r)
 
 abbrev countedOf : Reply ℕ → Counted
 countedOf (refused n) = CountedIs.Refused (refusalOf n)

@@ -14,9 +14,9 @@ use Rattle.paper.specs.Building.{allPlaces}
 use Rattle.paper.specs.Lists.{Once, _∈_}
 use Rattle.paper.specs.Questions.{marksOf}
 use Rattle.paper.specs.Records.{listing}
-use Rattle.paper.specs.Refusals.{Reply, Test, no, buildTests, headFrom, isOpen, madeFrom, nodesIn, over, queryIn, queryPart, tableAfter, treeIn, treePart, workFor}
+use Rattle.paper.specs.Refusals.{Reply, Test, no, treeEnd, buildTests, headFrom, isOpen, madeFrom, nodesIn, over, queryIn, queryPart, tableAfter, treeIn, treePart, workFor}
 use Rattle.paper.specs.Row.{Row}
-use Rattle.paper.specs.Stream.{StreamRecord, behind, queryRecords, recordsOf, treeRecords}
+use Rattle.paper.specs.Stream.{StreamRecord, queryRecords, recordsOf, treeRecords}
 use Rattle.laws.specs.Built.{BuiltSet, InAnswer, SaysTheAnswer, Stood}
 use Rattle.laws.specs.Fixings.{GoodSet}
 use Rattle.laws.specs.Numbered.{Numbered}
@@ -42,10 +42,6 @@ module _ (input : List ℕ) (workLength tableLength : ℕ) (passes : Passes (bui
   abbrev queryPartIn : List StreamRecord
   queryPartIn = queryRecords (recordsOf input)
 
-  -- where the query begins
-  abbrev queryFrom : ℕ
-  queryFrom = behind 0 treePartIn
-
   abbrev lastTests : List Test
   lastTests =
       (no 5, leb (workFor input) workLength)
@@ -56,21 +52,21 @@ module _ (input : List ℕ) (workLength tableLength : ℕ) (passes : Passes (bui
   arity = queryIn input .arity
 
   tree-passes : Passes (treePart treePartIn)
-  tree-passes = passes-left (treePart treePartIn) (queryPart queryFrom queryPartIn ++ lastTests) passes
+  tree-passes = passes-left (treePart treePartIn) (queryPart (treeEnd input) queryPartIn ++ lastTests) passes
 
-  later-passes : Passes (queryPart queryFrom queryPartIn ++ lastTests)
-  later-passes = passes-right (treePart treePartIn) (queryPart queryFrom queryPartIn ++ lastTests) passes
+  later-passes : Passes (queryPart (treeEnd input) queryPartIn ++ lastTests)
+  later-passes = passes-right (treePart treePartIn) (queryPart (treeEnd input) queryPartIn ++ lastTests) passes
 
   pub read-tree : Numbered 0 (treeIn input) (nodesIn input) × (1 ≤ nodesIn input) × (nodesIn input ≤ 4095)
   read-tree = tree-read treePartIn tree-passes
 
   pub read-query : ReadQuery (queryIn input)
-  read-query = query-read queryFrom queryPartIn (passes-left (queryPart queryFrom queryPartIn) lastTests later-passes)
+  read-query = query-read (treeEnd input) queryPartIn (passes-left (queryPart (treeEnd input) queryPartIn) lastTests later-passes)
 
   room : (leb (length (madeFrom input)) tableLength ≡ true) × (leb (length (madeFrom input)) 60000 ≡ true)
   room =
       both-true (leb (length (madeFrom input)) tableLength) (leb (length (madeFrom input)) 60000)
-      (passes-right (queryPart queryFrom queryPartIn) lastTests later-passes .1 .0)
+      (passes-right (queryPart (treeEnd input) queryPartIn) lastTests later-passes .1 .0)
 
   pub built-head : (table : List Record) → HeadOver (headFrom input) (over (madeFrom input) table) (madeFrom input) (answerRows (queryIn input) (treeIn input))
   built-head table =

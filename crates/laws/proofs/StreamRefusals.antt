@@ -1,19 +1,19 @@
 -- Refusals 1 to 6 of a build are exact. First what the tests from one place of the input on come to, then the walk through its records,
--- then that a stream is refused with one number only, then the two theorems.
+-- then that a stream is refused with one number only and at one position, then where that can be, then the two theorems.
 use mathlib.Core.Path.{_≡_, refl, sym, ap, ap₂, _∙_, subst}
 use mathlib.Core.Logic.{_⊎_, inl, inr, ⊎-elim, _↔_}
 use mathlib.Core.Bool.{Bool, true, false, _&&_}
 use mathlib.Core.List.{List, [], _∷_, _++_, append-nil, append-assoc, tail-eq-of-cons-eq, head-eq-of-cons-eq, nil≢cons, cons≢nil, List·Memᴰ·not-nil, List·Memᴰ·append-cases}
-use Prim.Native.Nat.{ℕ, zero, suc, _+_, _≤_, _<_}
+use Prim.Native.Nat.{ℕ, zero, suc, _≤_, _<_}
 use native.Mathlib.Nat.{zero-add}
 use native.Mathlib.Omega.{arith}
 use borrow.Author.Tests.{eqb-true}
 use lib.Dec.{leb}
-use lib.ListN.{length, drop, length-drop}
+use lib.ListN.{length, length-append, drop, length-drop}
 use lib.Seq.{append-snoc}
 use Rattle.paper.specs.Lists.{_∈_}
 use Rattle.paper.specs.Stream.{bodyLength, StreamRecord, recordsOf, behind, isTreeKind, treeRecords, queryRecords}
-use Rattle.paper.specs.Refusals.{No, no, noAt, refused, answer, Test, unless, StreamTest, testsAt, atEach, treeTests, treeEndTests, headTests, queryTests, queryEndTests, treePart, queryPart, workFor, madeFrom, headFrom, build}
+use Rattle.paper.specs.Refusals.{No, no, noAt, refused, answer, Test, unless, StreamTest, testsAt, atEach, treeTests, treeEndTests, headTests, queryTests, queryEndTests, treePart, queryPart, workFor, madeFrom, headFrom, build, treeEnd}
 use Rattle.laws.specs.Plain.{Record, Head}
 use Rattle.laws.specs.First.{Alone, FirstOf, NoneOf}
 use Rattle.laws.specs.StreamCauses.{written, Begins, AllTree, FaultAt, recordOrder, StreamRefused, StreamFine, buildOrder, BuildCause, BuildRefused}
@@ -36,7 +36,7 @@ pub record RefusedFrom (before : List StreamRecord) (bytes : List ℕ) (n positi
   pub later : List StreamRecord
   pub rest : List ℕ
   pub place : Begins bytes later rest
-  pub stands : position ≡ behind 0 (before ++ later)
+  pub position-is : position ≡ behind 0 (before ++ later)
   pub first : FirstOf recordOrder (FaultAt (before ++ later) rest) n
   pub none-earlier : (earlier middle : List StreamRecord) → later ≡ earlier ++ middle → (middle ≡ [] → ⊥)
       → NoneOf recordOrder (FaultAt (before ++ earlier) (written middle ++ rest))
@@ -56,7 +56,7 @@ refused-here before bytes position is n f = record {
   later = [];
   rest = bytes;
   place = place-here bytes;
-  stands = is ∙ ap (behind 0) (sym (append-nil before));
+  position-is = is ∙ ap (behind 0) (sym (append-nil before));
   first = rw append-nil f;
   none-earlier = λ earlier middle e h. absurd (h (append-nil-right earlier middle e));
 }
@@ -86,7 +86,7 @@ module _ (before : List StreamRecord) (k : ℕ) (more : List ℕ) where
     later = firstRecord k more ∷ f .later;
     rest = f .rest;
     place = place-after h (f .place);
-    stands = rw (← append-snoc before (firstRecord k more) (f .later)) (f .stands);
+    position-is = rw (← append-snoc before (firstRecord k more) (f .later)) (f .position-is);
     first = rw (← append-snoc before (firstRecord k more) (f .later)) (f .first);
     none-earlier = none;
   }
@@ -117,27 +117,27 @@ module _ (before : List StreamRecord) (k : ℕ) (more : List ℕ) where
 
 -- ---- the walk through the records
 -- the tests of the query from a record on, and those of the tree and then the query
-abbrev queryFrom : ℕ → List StreamRecord → List StreamRecord → List Test
-queryFrom from query rs = atEach queryTests from query rs ++ testsAt (behind from (query ++ rs)) (queryEndTests (query ++ rs))
+abbrev queryTestsFrom : ℕ → List StreamRecord → List StreamRecord → List Test
+queryTestsFrom from query rs = atEach queryTests from query rs ++ testsAt (behind from (query ++ rs)) (queryEndTests (query ++ rs))
 
-abbrev treeFrom : List StreamRecord → List StreamRecord → List Test
-treeFrom before rs =
+abbrev treeTestsFrom : List StreamRecord → List StreamRecord → List Test
+treeTestsFrom before rs =
     (atEach treeTests 0 before (treeRecords rs) ++ testsAt (behind 0 (before ++ treeRecords rs)) (treeEndTests (before ++ treeRecords rs)))
     ++ queryPart (behind 0 (before ++ treeRecords rs)) (queryRecords rs)
 
 -- they begin with those of the record that stands next
 query-from-next : (from : ℕ) (head : StreamRecord) (later : List StreamRecord) (r : StreamRecord) (rs : List StreamRecord)
-    → queryFrom from (head ∷ later) (r ∷ rs)
-    ≡ testsAt (behind from (head ∷ later)) (queryTests (head ∷ later) r) ++ queryFrom from (head ∷ (later ++ (r ∷ []))) rs
+    → queryTestsFrom from (head ∷ later) (r ∷ rs)
+    ≡ testsAt (behind from (head ∷ later)) (queryTests (head ∷ later) r) ++ queryTestsFrom from (head ∷ (later ++ (r ∷ []))) rs
 query-from-next from head later r rs = rw (← append-snoc later r rs) refl
 
 tree-from-next : (before : List StreamRecord) (r : StreamRecord) (rs : List StreamRecord) → isTreeKind (r .kind) ≡ true
-    → treeFrom before (r ∷ rs) ≡ testsAt (behind 0 before) (treeTests before r) ++ treeFrom (before ++ (r ∷ [])) rs
+    → treeTestsFrom before (r ∷ rs) ≡ testsAt (behind 0 before) (treeTests before r) ++ treeTestsFrom (before ++ (r ∷ [])) rs
 tree-from-next before r rs e = rw (e, ← append-snoc before r (treeRecords rs)) refl
 
 -- the tree's end is where the head stands
 tree-from-end : (before : List StreamRecord) (r : StreamRecord) (rs : List StreamRecord) → isTreeKind (r .kind) ≡ false
-    → treeFrom before (r ∷ rs) ≡ testsAt (behind 0 before) (treeEndTests before ++ headTests r) ++ queryFrom (behind 0 before) (r ∷ []) rs
+    → treeTestsFrom before (r ∷ rs) ≡ testsAt (behind 0 before) (treeEndTests before ++ headTests r) ++ queryTestsFrom (behind 0 before) (r ∷ []) rs
 tree-from-end before r rs e = rw (e, append-nil before) refl
 
 whole-snoc : (later : List StreamRecord) (k : ℕ) (more : List ℕ) → ((r : StreamRecord) → r ∈ later → length (r .body) ≡ bodyLength (r .kind))
@@ -154,20 +154,20 @@ in-query before tree query e = sym (ap (behind 0) e ∙ behind-append 0 tree que
 -- where the input ends after records of the query, the head among them
 query-outcome-end : (head : StreamRecord) (later : List StreamRecord) → head .kind ≡ 16
     → ((r : StreamRecord) → r ∈ later → length (r .body) ≡ bodyLength (r .kind)) → (before tree : List StreamRecord)
-    → before ≡ tree ++ (head ∷ later) → AllTree tree → Outcome before [] (queryFrom (behind 0 tree) (head ∷ later) [])
+    → before ≡ tree ++ (head ∷ later) → AllTree tree → Outcome before [] (queryTestsFrom (behind 0 tree) (head ∷ later) [])
 query-outcome-end head later h w before tree e a =
     rw (append-nil later) (outcome-end before _ (in-query before tree (head ∷ later) e) (query-end-judged head later h w before tree e a))
 
 -- from a place in the query, the head among the records before
 query-outcome : (n : ℕ) (bytes : List ℕ) → length bytes ≤ n → (head : StreamRecord) (later : List StreamRecord) → head .kind ≡ 16
     → ((r : StreamRecord) → r ∈ later → length (r .body) ≡ bodyLength (r .kind)) → (before tree : List StreamRecord)
-    → before ≡ tree ++ (head ∷ later) → AllTree tree → Outcome before bytes (queryFrom (behind 0 tree) (head ∷ later) (recordsOf bytes))
+    → before ≡ tree ++ (head ∷ later) → AllTree tree → Outcome before bytes (queryTestsFrom (behind 0 tree) (head ∷ later) (recordsOf bytes))
 query-outcome zero [] short head later h w before tree e a = query-outcome-end head later h w before tree e a
 query-outcome (suc n) [] short head later h w before tree e a = query-outcome-end head later h w before tree e a
 query-outcome zero (k ∷ more) short head later h w before tree e a = absurd (omega arith)
 query-outcome (suc n) (k ∷ more) short head later h w before tree e a =
     subst (Outcome before (k ∷ more))
-    (sym (ap (queryFrom (behind 0 tree) (head ∷ later)) (records-cons k more)
+    (sym (ap (queryTestsFrom (behind 0 tree) (head ∷ later)) (records-cons k more)
     ∙ query-from-next (behind 0 tree) head later (firstRecord k more) (recordsOf (drop (bodyLength k) more))))
     (outcome-next before k more _ (in-query before tree (head ∷ later) e) (later-judged head later h w before tree e a k more)
     (λ p. not-cut k more (p .1 .0))
@@ -176,17 +176,17 @@ query-outcome (suc n) (k ∷ more) short head later h w before tree e a =
     (rw (e, append-assoc) refl) a))
 
 -- where the input ends after tree records
-no-query-outcome : (before : List StreamRecord) → AllTree before → Counted before → Outcome before [] (treeFrom before [])
+no-query-outcome : (before : List StreamRecord) → AllTree before → Counted before → Outcome before [] (treeTestsFrom before [])
 no-query-outcome before a c = rw append-nil (outcome-end before (behind 0 before) refl (no-query-judged before a c))
 
 -- from a place in the tree
 tree-outcome : (n : ℕ) (bytes : List ℕ) → length bytes ≤ n → (before : List StreamRecord) → AllTree before → Counted before
-    → Outcome before bytes (treeFrom before (recordsOf bytes))
+    → Outcome before bytes (treeTestsFrom before (recordsOf bytes))
 tree-outcome zero [] short before a c = no-query-outcome before a c
 tree-outcome (suc n) [] short before a c = no-query-outcome before a c
 tree-outcome zero (k ∷ more) short before a c = absurd (omega arith)
 tree-outcome (suc n) (k ∷ more) short before a c =
-    subst (λ rs. Outcome before (k ∷ more) (treeFrom before rs)) (sym (records-cons k more))
+    subst (λ rs. Outcome before (k ∷ more) (treeTestsFrom before rs)) (sym (records-cons k more))
     (go (isTreeKind k) refl (tree-outcome n rest fewer (before ++ (r ∷ []))))
   where
     r : StreamRecord
@@ -200,8 +200,8 @@ tree-outcome (suc n) (k ∷ more) short before a c =
 
     go : (t : Bool) → isTreeKind k ≡ t
         → (AllTree (before ++ (r ∷ [])) → Counted (before ++ (r ∷ []))
-        → Outcome (before ++ (r ∷ [])) rest (treeFrom (before ++ (r ∷ [])) (recordsOf rest)))
-        → Outcome before (k ∷ more) (treeFrom before (r ∷ recordsOf rest))
+        → Outcome (before ++ (r ∷ [])) rest (treeTestsFrom (before ++ (r ∷ [])) (recordsOf rest)))
+        → Outcome before (k ∷ more) (treeTestsFrom before (r ∷ recordsOf rest))
     go true e next =
         subst (Outcome before (k ∷ more)) (sym (tree-from-next before r (recordsOf rest) e))
         (outcome-next before k more (behind 0 before) refl (tree-judged before a c k (tree-kind k e) more) (λ p. not-cut k more (p .1 .0))
@@ -214,7 +214,7 @@ tree-outcome (suc n) (k ∷ more) short before a c =
 -- the whole stream
 abbrev pub streamTests : List ℕ → List Test
 streamTests input =
-    treePart (treeRecords (recordsOf input)) ++ queryPart (behind 0 (treeRecords (recordsOf input))) (queryRecords (recordsOf input))
+    treePart (treeRecords (recordsOf input)) ++ queryPart (treeEnd input) (queryRecords (recordsOf input))
 
 pub stream-outcome : (input : List ℕ) → Outcome [] input (streamTests input)
 stream-outcome input = tree-outcome (length input) input (omega arith) [] (λ r m. absurd (List·Memᴰ·not-nil m)) refl
@@ -241,13 +241,23 @@ refused-same {input} s t =
 pub refused-not-fine : {input : List ℕ} {n p : ℕ} → StreamRefused input n p → StreamFine input → ⊥
 refused-not-fine {n = n} s f = first-not-none recordOrder (FaultAt (s .before) (s .bytes)) n (s .first) (f (s .before) (s .bytes) (s .place))
 
+-- ---- where it can be
+-- a position is never behind the end
+pub position-inside : {input : List ℕ} {n p : ℕ} → StreamRefused input n p → p ≤ length input
+position-inside s = omega (arith, s .position-is, ap length (s .place .split), length-append (written (s .before)) (s .bytes))
+
+-- and where nothing stands it is the input's length
+pub position-at-end : {input : List ℕ} {n p : ℕ} (s : StreamRefused input n p) → s .bytes ≡ [] → p ≡ length input
+position-at-end s none =
+    omega (arith, s .position-is, ap length (s .place .split), length-append (written (s .before)) (s .bytes), ap length none)
+
 -- ---- the build
 pub stream-refused : {input : List ℕ} {n p : ℕ} → RefusedFrom [] input n p → StreamRefused input n p
 stream-refused s = record {
   before = s .later;
   bytes = s .rest;
   place = s .place;
-  position-is = s .stands ∙ (behind-written 0 (s .later) ∙ zero-add _);
+  position-is = s .position-is ∙ (behind-written 0 (s .later) ∙ zero-add _);
   first = s .first;
   none-earlier = s .none-earlier;
 }
@@ -267,7 +277,7 @@ module _ (input : List ℕ) (workLength tableLength : ℕ) where
   build-tests =
       ap (λ ts. unless ts given)
       (sym (append-assoc (treePart (treeRecords (recordsOf input)))
-      (queryPart (behind 0 (treeRecords (recordsOf input))) (queryRecords (recordsOf input))) spaceTests))
+      (queryPart (treeEnd input) (queryRecords (recordsOf input))) spaceTests))
 
   build-passes : Passes (streamTests input) → build input workLength tableLength ≡ unless spaceTests given
   build-passes p = build-tests ∙ unless-append (streamTests input) spaceTests given p

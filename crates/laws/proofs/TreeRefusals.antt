@@ -5,12 +5,12 @@ use mathlib.Core.Logic.{_↔_, _⊎_, inl, inr, ⊎-elim}
 use mathlib.Core.Path.{_∙_, _≡_, ap, subst, sym}
 use Prim.Native.Nat.{_≤_, ℕ}
 use native.Mathlib.Omega.{arith}
-use Rattle.paper.specs.Refusals.{No, Test, no, noAt, numberIn, queryPart, refused, treePart, unless}
-use Rattle.paper.specs.Stream.{behind, queryRecords, recordsOf, treeRecords}
+use Rattle.paper.specs.Refusals.{No, Test, no, noAt, numberIn, queryPart, refused, treePart, unless, treeEnd}
+use Rattle.paper.specs.Stream.{queryRecords, recordsOf, treeRecords}
 use Rattle.laws.specs.StreamCauses.{StreamRefused, TreeRefused}
 use Rattle.laws.proofs.AtEach.{ThreeOrFour, query-says, tree-says}
 use Rattle.laws.proofs.Judged.{FailsFirst, fails-refused}
-use Rattle.laws.proofs.Replies.{Passes, alone-not-at, answers, passes-left, refused-inj, refused-not-answer, says-refused}
+use Rattle.laws.proofs.Replies.{Passes, answers, passes-left, refused-inj, refused-not-answer, says-refused}
 use Rattle.laws.proofs.StreamRefusals.{Outcome, all-fine, first-refused, refused-not-fine, refused-same, stream-outcome, stream-refused, streamTests}
 
 -- it is of the first list; or that passes, and it is of the second
@@ -24,7 +24,7 @@ module _ {A : Type 0} (a : A) (input : List ℕ) where
   ofTree = treePart (treeRecords (recordsOf input))
 
   abbrev ofQuery : List Test
-  ofQuery = queryPart (behind 0 (treeRecords (recordsOf input))) (queryRecords (recordsOf input))
+  ofQuery = queryPart (treeEnd input) (queryRecords (recordsOf input))
 
   -- no test of the tree fails: it is answered
   none-fails : Passes ofTree → ((w : No) → TreeRefused input w → ⊥) → (w : No) → (unless ofTree a ≡ refused w) ↔ TreeRefused input w
@@ -50,12 +50,12 @@ module _ {A : Type 0} (a : A) (input : List ℕ) where
     of-query f (no m) r = r
     of-query f (noAt m at) r =
         let given : unless ofQuery a ≡ refused (noAt n position) = fails-refused ofQuery (noAt n position) a f in
-        let high = says-refused ThreeOrFour ofQuery a (query-says (behind 0 (treeRecords (recordsOf input))) (queryRecords (recordsOf input))) given in
+        let high = says-refused ThreeOrFour ofQuery a (query-says (treeEnd input) (queryRecords (recordsOf input))) given in
         omega (arith, high .0, r .1, ap numberIn (refused-same s (r .0)))
 
   -- a tree is refused exactly where the first record at fault is the tree's, with that record's number and position
-  pub tree-refused : (w : No) → (unless ofTree a ≡ refused w) ↔ TreeRefused input w
-  tree-refused = by-stream (stream-outcome input)
+  pub tree-exact : (w : No) → (unless ofTree a ≡ refused w) ↔ TreeRefused input w
+  tree-exact = by-stream (stream-outcome input)
     where
       by-stream : Outcome [] input (streamTests input) → (w : No) → (unless ofTree a ≡ refused w) ↔ TreeRefused input w
       by-stream (all-fine p f) = none-fails (passes-left ofTree ofQuery p) never

@@ -13,6 +13,10 @@ longestWord = 8
 abbrev pub longestFact : ℕ
 longestFact = longestWord + longestNumber + 1
 
+-- ` at `
+abbrev pub atBytes : ℕ
+atBytes = 4
+
 -- the line of a refusal: `refused `, a number, ` at `, a number, and its end
 abbrev pub longestRefusal : ℕ
-longestRefusal = longestWord + longestNumber + 4 + longestNumber + 1
+longestRefusal = longestWord + longestNumber + atBytes + longestNumber + 1

@@ -3,11 +3,11 @@
 // so none asks for anything; who has the room knows that all stands there (proofs/Putting.antt).
 ghost use mathlib.Core.List.{[], _∷_};
 ghost use mathlib.Core.Path.{_≡_};
-ghost use Rattle.paper.specs.Answers.{noOf};
+ghost use Rattle.paper.specs.Answers.{noOfStream};
 ghost use Rattle.lines.specs.Put.{put, putFact, putRefusal};
 ghost use Rattle.lines.specs.Text.{numberText};
 use paper::Position;
-use paper::Refusal;
+use paper::StreamRefusal;
 
 // The digits of a number below 2 to the power of 64, at most.
 pub const LONGEST_NUMBER: usize = 20;
@@ -61,8 +61,8 @@ pub fn put_fact(text: &mut [u8], at: usize, word: &[u8], n: u64) -> usize
 
 // The line of a refusal, from the start of the buffer: a program that refuses tells nothing else. Its number, and the position if it has
 // one.
-pub fn put_refusal(text: &mut [u8], why: Refusal) -> usize
-    ensures { λ r. ⌜ putRefusal (noOf why) (0, now (text .entry)) ≡ (r, now (text .exit)) ⌝ }
+pub fn put_refusal(text: &mut [u8], why: StreamRefusal) -> usize
+    ensures { λ r. ⌜ putRefusal (noOfStream why) (0, now (text .entry)) ≡ (r, now (text .exit)) ⌝ }
 {
     let word = put_word(
         &mut *text,

@@ -12,9 +12,10 @@ use Rattle.paper.specs.declared.Counted.{Counted}
 use Rattle.paper.specs.declared.Counted.the-variants as CountedIs
 use Rattle.paper.specs.declared.Head.{Head}
 use Rattle.paper.specs.declared.Refusal.{Refusal}
+use Rattle.paper.specs.declared.StreamRefusal.{StreamRefusal}
 use Rattle.paper.specs.declared.Written.{Written}
 use Rattle.paper.specs.declared.Written.the-variants as WrittenIs
-use Rattle.paper.specs.Answers.{noOf, saysBuilt, saysCounted, saysWritten}
+use Rattle.paper.specs.Answers.{noOf, noOfStream, saysBuilt, saysCounted, saysWritten}
 use Rattle.list.specs.Bounds.{longestLine}
 use Rattle.list.specs.declared.handed.Handed.{Handed}
 use Rattle.list.specs.declared.page.Page.{Page}
@@ -24,8 +25,8 @@ use Rattle.lines.specs.Put.{Puts}
 use Rattle.list.specs.Text.{lineText}
 use Rattle.list.proofs.Waiting.{room-failed, room-made}
 
-pub opens-refused : (b : Built) (n : Counted) (why : Refusal) (t : Page) (text : List ℕ) → b ≡ BuiltIs.Refused why
-    → Refuses (noOf why) t text → Opens (saysBuilt b) (saysCounted n) t text
+pub opens-refused : (b : Built) (n : Counted) (why : StreamRefusal) (t : Page) (text : List ℕ) → b ≡ BuiltIs.Refused why
+    → Refuses (noOfStream why) t text → Opens (saysBuilt b) (saysCounted n) t text
 opens-refused b n why t text e r = rw e r
 
 pub opens-uncounted : (b : Built) (n : Counted) (h : Head) (why : Refusal) (t : Page) (text : List ℕ) → b ≡ BuiltIs.Set h

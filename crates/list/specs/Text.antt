@@ -1,4 +1,5 @@
--- What the program prints: a line for each row, and the whole text. A number and a line of a word and a number are `lines`', and so is the line of a refusal.
+-- What the program prints: a line for each row, and the whole text. A number, a line of a word and a number, and the line of a refusal are
+-- `lines`'.
 use mathlib.Core.List.{List, [], _∷_, _++_}
 use Prim.Native.Nat.{ℕ, zero, suc}
 use lib.ListN.{length}

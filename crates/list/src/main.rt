@@ -21,6 +21,7 @@ use paper::Head;
 use paper::Record;
 use paper::Refusal;
 use paper::Set;
+use paper::StreamRefusal;
 use paper::limits::MOST_PLACES;
 
 mod handed;
@@ -102,7 +103,7 @@ fn answer(input: &[u8], text: &mut [u8]) -> Page
     ensures { λ r. ⌜ Lists (now (input .entry)) r (now (text .exit)) ⌝ }
 {
     if input.len() > LONGEST_INPUT {
-        return refuse(Refusal::LongInput, &mut *text);
+        return refuse(StreamRefusal::Other(Refusal::LongInput), &mut *text);
     }
     list(input, &mut *text)
 }

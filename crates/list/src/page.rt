@@ -3,7 +3,7 @@
 ghost use mathlib.Core.Path.{_≡_};
 ghost use Prim.Native.Nat.{_≤_};
 ghost use lib.ListN.{length};
-ghost use Rattle.paper.specs.Answers.{noOf, saysBuilt, saysCounted, saysWritten};
+ghost use Rattle.paper.specs.Answers.{noOfStream, saysBuilt, saysCounted, saysWritten};
 ghost use Rattle.list.specs.Bounds.{longestOpening, largestText};
 ghost use Rattle.list.specs.Page.{Facts, Refuses, Opens, Waits, passedOn, MakesRoom, LineReady, Lines};
 use crate::handed::Handed;
@@ -18,7 +18,7 @@ use lines::put_refusal;
 use paper::Built;
 use paper::Counted;
 use paper::Head;
-use paper::Refusal;
+use paper::StreamRefusal;
 use paper::Written;
 use paper::limits::MOST_PLACES;
 
@@ -38,9 +38,9 @@ pub(crate) struct Page {
 }
 
 // The line of the refusal, and no more. The text is empty then, and has room for it: it is shorter than the two lines before the rows can be.
-pub(crate) fn refuse(why: Refusal, text: &mut [u8]) -> Page
+pub(crate) fn refuse(why: StreamRefusal, text: &mut [u8]) -> Page
     requires { ⌜ (longestOpening ≤ length (now text)) × (length (now text) ≤ largestText) ⌝ }
-    ensures { λ r. ⌜ Refuses (noOf why) r (now (text .exit)) ⌝ }
+    ensures { λ r. ⌜ Refuses (noOfStream why) r (now (text .exit)) ⌝ }
 {
     let bytes = put_refusal(&mut *text, why);
     Page {
@@ -76,7 +76,7 @@ pub(crate) fn open_page(built: Built, counted: Counted, text: &mut [u8]) -> Page
     match built {
         Built::Refused(why) => refuse(why, &mut *text),
         Built::Set(head) => match counted {
-            Counted::Refused(why) => refuse(why, &mut *text),
+            Counted::Refused(why) => refuse(StreamRefusal::Other(why), &mut *text),
             Counted::Rows(rows) => {
                 let bytes = facts(head, rows, &mut *text);
                 Page {

@@ -3,7 +3,9 @@ use mathlib.Core.Bool.{Bool, true, false}
 use mathlib.Core.Option.{Option, none, some}
 use Prim.Native.Nat.{ℕ}
 pub use Rattle.paper.specs.declared.Refusal.{Refusal}
-use Rattle.paper.specs.declared.Refusal.the-variants.{Tree, ManyNodes, Query, Twice, ShortWork, ShortTable, Place, Node, RowNumber, ShortOutput, NotSound, UnitTwice, RowLength, LongInput, Text}
+use Rattle.paper.specs.declared.Refusal.the-variants.{ShortWork, ShortTable, Place, Node, RowNumber, ShortOutput, NotSound, UnitTwice, RowLength, LongInput, Text}
+pub use Rattle.paper.specs.declared.StreamRefusal.{StreamRefusal}
+use Rattle.paper.specs.declared.StreamRefusal.the-variants.{Tree, ManyNodes, Query, Twice, Other}
 pub use Rattle.paper.specs.declared.Position.{Position}
 use Rattle.paper.specs.declared.Position.the-variants as PositionIs
 pub use Rattle.paper.specs.declared.Built.{Built}
@@ -21,28 +23,32 @@ use Rattle.paper.specs.declared.Fixed.the-variants as FixedIs
 pub use Rattle.paper.specs.declared.Converted.{Converted}
 use Rattle.paper.specs.declared.Converted.the-variants as ConvertedIs
 use Rattle.paper.specs.Records.{Head}
-use Rattle.paper.specs.Refusals.{No, no, noAt, numberIn, Reply, refused, answer}
-
--- what a refusal says: 1 to 4 have the position of what is at fault
-abbrev pub noOf : Refusal → No
-noOf (Tree position) = noAt 1 position
-noOf (ManyNodes position) = noAt 2 position
-noOf (Query position) = noAt 3 position
-noOf (Twice position) = noAt 4 position
-noOf ShortWork = no 5
-noOf ShortTable = no 6
-noOf Place = no 7
-noOf Node = no 8
-noOf RowNumber = no 9
-noOf ShortOutput = no 10
-noOf NotSound = no 11
-noOf UnitTwice = no 12
-noOf RowLength = no 13
-noOf LongInput = no 14
-noOf Text = no 15
+use Rattle.paper.specs.Refusals.{No, no, noAt, Reply, refused, answer}
 
 abbrev pub numberOf : Refusal → ℕ
-numberOf r = numberIn (noOf r)
+numberOf ShortWork = 5
+numberOf ShortTable = 6
+numberOf Place = 7
+numberOf Node = 8
+numberOf RowNumber = 9
+numberOf ShortOutput = 10
+numberOf NotSound = 11
+numberOf UnitTwice = 12
+numberOf RowLength = 13
+numberOf LongInput = 14
+numberOf Text = 15
+
+-- what a refusal says: from 5 on the number alone
+abbrev pub noOf : Refusal → No
+noOf r = no (numberOf r)
+
+-- and of a stream: 1 to 4 have the position of what is at fault
+abbrev pub noOfStream : StreamRefusal → No
+noOfStream (Tree position) = noAt 1 position
+noOfStream (ManyNodes position) = noAt 2 position
+noOfStream (Query position) = noAt 3 position
+noOfStream (Twice position) = noAt 4 position
+noOfStream (Other r) = noOf r
 
 -- where a refusal says that the input is at fault, if it does
 abbrev pub saysPosition : Position → Option ℕ
@@ -51,7 +57,7 @@ saysPosition PositionIs.None = none
 
 abbrev pub saysBuilt : Built → Reply Head
 saysBuilt (BuiltIs.Set h) = answer h
-saysBuilt (BuiltIs.Refused r) = refused (noOf r)
+saysBuilt (BuiltIs.Refused r) = refused (noOfStream r)
 
 abbrev pub saysCounted : Counted → Reply ℕ
 saysCounted (CountedIs.Rows n) = answer n

@@ -1,4 +1,5 @@
--- 'Numbers that say no': for each call its tests in the paper's order, each with the number given where it is the first to fail.
+-- 'Numbers that say no': for each call its tests in the paper's order, each with the number given where it is the first to fail, and of the
+-- stream with the position (request 2026-04).
 -- Then what every call leaves behind.
 use mathlib.Core.Bool.{Bool, true, false, cond, not, _&&_, _||_}
 use mathlib.Core.List.{List, [], _∷_, _++_}
@@ -128,6 +129,10 @@ abbrev pub queryPart : ℕ → List StreamRecord → List Test
 queryPart from records = part queryTests queryEndTests from records
 
 -- ---- build
+-- the position where the tree ends
+abbrev pub treeEnd : List ℕ → ℕ
+treeEnd input = behind 0 (treeRecords (recordsOf input))
+
 abbrev pub treeIn : List ℕ → Tree
 treeIn input = treeOf (treeRecords (recordsOf input))
 
@@ -157,7 +162,7 @@ headFrom input = record {
 abbrev pub buildTests : List ℕ → ℕ → ℕ → List Test
 buildTests input workLength tableLength =
     treePart (treeRecords (recordsOf input))
-    ++ (queryPart (behind 0 (treeRecords (recordsOf input))) (queryRecords (recordsOf input))
+    ++ (queryPart (treeEnd input) (queryRecords (recordsOf input))
     ++ ((no 5, leb (workFor input) workLength)
     ∷ (no 6, leb (length (madeFrom input)) tableLength && leb (length (madeFrom input)) 60000)
     ∷ []))

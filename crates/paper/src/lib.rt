@@ -2,8 +2,8 @@
 // an answer for each call. The kinds of records and the limits have files of their own. What they mean stands in specs/, section
 // by section; specs/Answers.antt has the number of each refusal.
 ghost use mathlib.Core.Path.{_≡_};
-ghost use Rattle.paper.specs.Answers.{noOf, numberOf, saysPosition};
-ghost use Rattle.paper.specs.Refusals.{positionIn};
+ghost use Rattle.paper.specs.Answers.{noOfStream, numberOf, saysPosition};
+ghost use Rattle.paper.specs.Refusals.{numberIn, positionIn};
 
 pub mod kinds;
 pub mod limits;
@@ -50,15 +50,10 @@ impl Place {
     pub const BLANK: u16 = 65535;
 }
 
-// The numbers that say no, in the order of their table, each case named after its cause. The first four are of the input stream and have
-// the byte position of what is at fault (request 2026-04). It is one enum for all calls, so that a number means the same wherever it is
-// met; which call gives which, and which first, is said in specs/Refusals.antt, and for the two calls of request 2026-01 in
-// specs/Conversions.antt.
+// The numbers that say no, from 5 on, in the order of their table, each case named after its cause. It is one enum for all calls, so that a
+// number means the same wherever it is met; which call gives which, and which first, is said in specs/Refusals.antt, and for the two calls
+// of request 2026-01 in specs/Conversions.antt.
 pub enum Refusal {
-    Tree(usize),
-    ManyNodes(usize),
-    Query(usize),
-    Twice(usize),
     ShortWork,
     ShortTable,
     Place,
@@ -72,23 +67,13 @@ pub enum Refusal {
     Text,
 }
 
-// Where a refusal says that the input is at fault.
-pub enum Position {
-    At(usize),
-    None,
-}
-
 impl Refusal {
-    // The paper's number. In Rattle it stands here only: the functions for C and the program ask this one. The header and the bindings
-    // list the numbers once more, for those who write in C, Fortran or Rust.
+    // The paper's number. In Rattle it stands here and below only: the functions for C and the programs ask these. The header and the
+    // bindings list the numbers once more, for those who write in C, Fortran or Rust.
     pub fn number(self) -> u8
         ensures { λ n. ⌜ n ≡ numberOf self ⌝ }
     {
         match self {
-            Refusal::Tree(_) => 1,
-            Refusal::ManyNodes(_) => 2,
-            Refusal::Query(_) => 3,
-            Refusal::Twice(_) => 4,
             Refusal::ShortWork => 5,
             Refusal::ShortTable => 6,
             Refusal::Place => 7,
@@ -102,17 +87,47 @@ impl Refusal {
             Refusal::Text => 15,
         }
     }
+}
+
+// What says no to a stream: 1 to 4, each with the byte position of what is at fault (request 2026-04), or one of the others. It is a type of
+// its own, so that what only has a number stays a byte: the questions carry one from turn to turn.
+pub enum StreamRefusal {
+    Tree(usize),
+    ManyNodes(usize),
+    Query(usize),
+    Twice(usize),
+    Other(Refusal),
+}
+
+// Where a refusal says that the input is at fault.
+pub enum Position {
+    At(usize),
+    None,
+}
+
+impl StreamRefusal {
+    pub fn number(self) -> u8
+        ensures { λ n. ⌜ n ≡ numberIn (noOfStream self) ⌝ }
+    {
+        match self {
+            StreamRefusal::Tree(_) => 1,
+            StreamRefusal::ManyNodes(_) => 2,
+            StreamRefusal::Query(_) => 3,
+            StreamRefusal::Twice(_) => 4,
+            StreamRefusal::Other(why) => why.number(),
+        }
+    }
 
     // The position that 1 to 4 have.
     pub fn position(self) -> Position
-        ensures { λ p. ⌜ saysPosition p ≡ positionIn (noOf self) ⌝ }
+        ensures { λ p. ⌜ saysPosition p ≡ positionIn (noOfStream self) ⌝ }
     {
         match self {
-            Refusal::Tree(at) => Position::At(at),
-            Refusal::ManyNodes(at) => Position::At(at),
-            Refusal::Query(at) => Position::At(at),
-            Refusal::Twice(at) => Position::At(at),
-            _ => Position::None,
+            StreamRefusal::Tree(at) => Position::At(at),
+            StreamRefusal::ManyNodes(at) => Position::At(at),
+            StreamRefusal::Query(at) => Position::At(at),
+            StreamRefusal::Twice(at) => Position::At(at),
+            StreamRefusal::Other(_) => Position::None,
         }
     }
 }
@@ -122,7 +137,7 @@ impl Refusal {
 // Build: the set stands in the table, and this is its head.
 pub enum Built {
     Set(Head),
-    Refused(Refusal),
+    Refused(StreamRefusal),
 }
 
 // Count: how many rows are listed, at most 2 to the power of 48.

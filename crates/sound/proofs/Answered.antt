@@ -1,7 +1,6 @@
 -- What a question knows once `weigh` has answered. The question's tests are those of `weigh`, and then more. Where `weigh` says sound, only
 -- the others are left, and the work has the weights; where it says no, the question's reply is that refusal, and the work is left as it says.
-use mathlib.Core.Bool.{Bool, cond, false, true}
-use mathlib.Core.List.{List, [], _++_, _∷_}
+use mathlib.Core.List.{List, _++_}
 use mathlib.Core.Path.{_∙_, _≡_, ap, sym}
 use Prim.Native.Nat.{_≤_, min, ℕ}
 use native.Mathlib.Omega.{arith}

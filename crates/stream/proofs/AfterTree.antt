@@ -12,7 +12,7 @@ use lib.ListN.{drop, getD, length, length-drop}
 use lib.Seq.{drop-drop}
 use Rattle.paper.specs.Lists.{_∈_}
 use Rattle.paper.specs.Query.{Query, acceptingOf, queryOf, rulesOf}
-use Rattle.paper.specs.Refusals.{answer, atEach, headTests, laterTests, nodesIn, queryEndTests, queryIn, queryPart, queryTests, testsAt, treeEndTests, treePart, treeTests, unless}
+use Rattle.paper.specs.Refusals.{answer, atEach, headTests, laterTests, nodesIn, queryEndTests, queryIn, queryPart, queryTests, testsAt, treeEndTests, treePart, treeTests, unless, treeEnd}
 use Rattle.paper.specs.Stream.{StreamRecord, behind, bodyLength, isTreeKind, number, queryRecords, recordsOf, treeRecords, whole}
 use Rattle.laws.specs.StreamCauses.{AllTree, TreeKind}
 use Rattle.laws.proofs.AtEach.{part-each}
@@ -83,7 +83,7 @@ tree-kinds (x ∷ xs) r m = go (isTreeKind (x .kind)) refl m (tree-kinds xs r)
     go true e n later = ⊎-elim (λ is. subst (λ z. TreeKind (z .kind)) (sym is) (tree-kind (x .kind) e)) later (List·Memᴰ·cases-cons n)
     go false e n later = absurd (List·Memᴰ·not-nil n)
 
-pub behind-records : (input : List ℕ) → Passes (treePart (treeRecords (recordsOf input))) → behind 0 (treeRecords (recordsOf input)) ≡ 2 * nodesIn input
+pub behind-records : (input : List ℕ) → Passes (treePart (treeRecords (recordsOf input))) → treeEnd input ≡ 2 * nodesIn input
 behind-records input p =
     omega (arith, behind-written 0 (treeRecords (recordsOf input)), tree-bytes (treeRecords (recordsOf input)) (tree-kinds (recordsOf input)) are-whole)
   where
@@ -95,7 +95,7 @@ behind-records input p =
 
 pub reply-after-tree : (input : List ℕ) → Passes (treePart (treeRecords (recordsOf input)))
     → queryReply input (2 * nodesIn input)
-    ≡ unless (queryPart (behind 0 (treeRecords (recordsOf input))) (queryRecords (recordsOf input))) (queryFacts input (2 * nodesIn input))
+    ≡ unless (queryPart (treeEnd input) (queryRecords (recordsOf input))) (queryFacts input (2 * nodesIn input))
 reply-after-tree input p =
     ap₂ (λ from records. unless (queryPart from records) (queryFacts input (2 * nodesIn input))) (sym (behind-records input p))
     (sym (query-after-tree input))

@@ -6,8 +6,8 @@ use mathlib.Core.Path.{_∙_, _≡_, sym}
 use Prim.Native.Nat.{ℕ}
 use Rattle.paper.specs.Refusals.{No, refused}
 use Rattle.laws.specs.StreamCauses.{TreeRefused}
-use Rattle.laws.proofs.TreeRefusals.{tree-refused}
+use Rattle.laws.proofs.TreeRefusals.{tree-exact}
 use Rattle.stream.specs.Reading.{TreeRead, saysTree, treeFacts, treeReply}
 
-pub read-tree-refused : (input : List ℕ) (r : TreeRead) → saysTree r ≡ treeReply input → (w : No) → (saysTree r ≡ refused w) ↔ TreeRefused input w
-read-tree-refused input r e w = Iff·trans (λ q. sym e ∙ q, λ q. e ∙ q) (tree-refused (treeFacts input) input w)
+pub read-tree-exact : (input : List ℕ) (r : TreeRead) → saysTree r ≡ treeReply input → (w : No) → (saysTree r ≡ refused w) ↔ TreeRefused input w
+read-tree-exact input r e w = Iff·trans (λ q. sym e ∙ q, λ q. e ∙ q) (tree-exact (treeFacts input) input w)

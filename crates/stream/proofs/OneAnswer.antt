@@ -10,7 +10,7 @@ use lib.ListN.{drop, length}
 use Rattle.paper.specs.Lists.{_∈_}
 use Rattle.paper.specs.Refusals.{Reply, answer, refused}
 use Rattle.paper.specs.Stream.{StreamRecord, recordsOf}
-use Rattle.laws.proofs.Answers.{refusal-told, refusalOf, told-apart}
+use Rattle.laws.proofs.Answers.{stream-refusal-told, streamRefusalOf, told-apart}
 use Rattle.laws.proofs.Lists.{here}
 use Rattle.stream.specs.Positions.{NextRule, isRuleFor, recordAt}
 use Rattle.stream.specs.Reading.{QueryFacts, QueryRead, TreeFacts, TreeRead, queryReply, saysQuery, saysTree, treeReply}
@@ -20,20 +20,20 @@ use Rattle.stream.proofs.Positions.{one-rest, records-here, records-non
 
 -- ---- the readers
 abbrev treeReadOf : Reply TreeFacts → TreeRead
-treeReadOf (refused n) = TreeReadIs.Refused (refusalOf n)
+treeReadOf (refused n) = TreeReadIs.Refused (streamRefusalOf n)
 treeReadOf (answer f) = TreeReadIs.Tree f
 
 tree-told : (r : TreeRead) → treeReadOf (saysTree r) ≡ r
 tree-told (TreeReadIs.Tree f) = refl
-tree-told (TreeReadIs.Refused r) = ap TreeReadIs.Refused (refusal-told r)
+tree-told (TreeReadIs.Refused r) = ap TreeReadIs.Refused (stream-refusal-told r)
 
 abbrev queryReadOf : Reply QueryFacts → QueryRead
-queryReadOf (refused n) = QueryReadIs.Refused (refusalOf n)
+queryReadOf (refused n) = QueryReadIs.Refused (streamRefusalOf n)
 queryReadOf (answer f) = QueryReadIs.Query f
 
 query-told : (r : QueryRead) → queryReadOf (saysQuery r) ≡ r
 query-told (QueryReadIs.Query f) = refl
-query-told (QueryReadIs.Refused r) = ap QueryReadIs.Refused (refusal-told r)
+query-told (QueryReadIs.Refused r) = ap QueryReadIs.Refused (stream-refusal-told r)
 
 -- two results of `read_tree`
 pub one-tree : (input : List ℕ) (r s : TreeRead) → saysTree r ≡ treeReply input → saysTree s ≡ treeReply input → r ≡ s

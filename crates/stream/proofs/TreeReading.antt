@@ -9,7 +9,7 @@ use borrow.Author.Tests.{eq-eqb, ltb-false, ltb-true, ne-eqb}
 use lib.Dec.{ltb}
 use lib.ListN.{drop, getD, length, length-append}
 use Rattle.paper.specs.Lists.{_∈_}
-use Rattle.paper.specs.Refusals.{No, Test, answer, atEach, noAt, nodesIn, refused, testsAt, treeEndTests, treePart, treeTests, unless}
+use Rattle.paper.specs.Refusals.{No, Test, answer, atEach, noAt, nodesIn, refused, testsAt, treeEndTests, treePart, treeTests, unless, treeEnd}
 use Rattle.paper.specs.Stream.{StreamRecord, behind, bodyLength, isTreeKind, recordsOf, treeRecords, whole}
 use Rattle.paper.specs.Tree.{mostUnjoined, unjoined}
 use Rattle.laws.specs.StreamCauses.{AllTree, written}
@@ -104,7 +104,7 @@ module _ (input : List ℕ) (s : TreeState) (k : TreeSoFar input s) where
         ∙ ap (λ records. unless (atEach treeTests 0 [] records ++ endTests) (treeFacts input)) (sym tree-is)
       where
         endTests : List Test
-        endTests = testsAt (behind 0 (treeRecords (recordsOf input))) (treeEndTests (treeRecords (recordsOf input)))
+        endTests = testsAt (treeEnd input) (treeEndTests (treeRecords (recordsOf input)))
 
         first : treeRecords (recordsOf (drop (s .at) input))
             ≡ recordAt input (s .at) ∷ treeRecords (recordsOf (drop (after input (s .at)) input))

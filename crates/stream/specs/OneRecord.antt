@@ -9,7 +9,7 @@ use Rattle.paper.specs.Stream.{StreamRecord, whole, recordsOf, isTreeKind}
 use Rattle.paper.specs.Tree.{unjoined, mostUnjoined}
 use Rattle.paper.specs.Query.{Query, rulesOf, acceptingOf}
 use Rattle.paper.specs.Refusals.{Reply, refused, answer, unless, testsAt, atEach, treeTests, headTests, laterTests, inRange}
-use Rattle.paper.specs.Answers.{noOf}
+use Rattle.paper.specs.Answers.{noOfStream}
 use Rattle.stream.specs.Positions.{recordAt, after, recordsBetween, WholeBetween}
 use Rattle.stream.specs.Reading.{QueryFacts, queryFacts}
 pub use Rattle.stream.specs.declared.tree.TreeState.{TreeState}
@@ -39,7 +39,7 @@ treeStep input at = unless (testsAt at (treeTests (recordsBetween input 0 at) (r
 
 abbrev pub saysTreeStep : TreeStep → Reply TreeState
 saysTreeStep (TreeStepIs.Next s) = answer s
-saysTreeStep (TreeStepIs.Refused r) = refused (noOf r)
+saysTreeStep (TreeStepIs.Refused r) = refused (noOfStream r)
 
 -- whole records up to a tree record, and the state that they make
 pub record AtTreeRecord (input : List ℕ) (s : TreeState) : Type 0 where
@@ -98,7 +98,7 @@ queryStep input f at =
 
 abbrev pub saysQueryStep : QueryStep → Reply QueryState
 saysQueryStep (QueryStepIs.Next s) = answer s
-saysQueryStep (QueryStepIs.Refused r) = refused (noOf r)
+saysQueryStep (QueryStepIs.Refused r) = refused (noOfStream r)
 
 -- all of them, behind a head with these facts
 abbrev pub laterReply : List ℕ → QueryFacts → Reply QueryFacts

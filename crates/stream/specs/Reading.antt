@@ -6,7 +6,7 @@ use Rattle.paper.specs.Stream.{recordsOf, treeRecords}
 use Rattle.paper.specs.Tree.{mostUnjoined}
 use Rattle.paper.specs.Query.{queryOf}
 use Rattle.paper.specs.Refusals.{Reply, refused, answer, unless, treePart, queryPart, nodesIn}
-use Rattle.paper.specs.Answers.{noOf}
+use Rattle.paper.specs.Answers.{noOfStream}
 pub use Rattle.stream.specs.declared.tree.TreeFacts.{TreeFacts}
 pub use Rattle.stream.specs.declared.tree.TreeRead.{TreeRead}
 use Rattle.stream.specs.declared.tree.TreeRead.the-variants as TreeReadIs
@@ -27,7 +27,7 @@ treeReply input = unless (treePart (treeRecords (recordsOf input))) (treeFacts i
 
 abbrev pub saysTree : TreeRead → Reply TreeFacts
 saysTree (TreeReadIs.Tree f) = answer f
-saysTree (TreeReadIs.Refused r) = refused (noOf r)
+saysTree (TreeReadIs.Refused r) = refused (noOfStream r)
 
 -- ---- the query whose head stands at a position: its arity, its states, and where the records behind the head begin
 abbrev pub queryFacts : List ℕ → ℕ → QueryFacts
@@ -42,4 +42,4 @@ queryReply input at = unless (queryPart at (recordsOf (drop at input))) (queryFa
 
 abbrev pub saysQuery : QueryRead → Reply QueryFacts
 saysQuery (QueryReadIs.Query f) = answer f
-saysQuery (QueryReadIs.Refused r) = refused (noOf r)
+saysQuery (QueryReadIs.Refused r) = refused (noOfStream r)

@@ -6,7 +6,7 @@ ghost use lib.Dec.{leb};
 ghost use Rattle.stream.specs.OneRecord.{headReply};
 ghost use Rattle.stream.specs.Reading.{saysQuery};
 use crate::lengths::body_length;
-use paper::Refusal;
+use paper::StreamRefusal;
 use paper::kinds::QUERY_HEAD;
 use paper::limits::MOST_PLACES;
 use paper::limits::MOST_STATES;
@@ -20,7 +20,7 @@ pub struct QueryFacts {
 
 pub enum QueryRead {
     Query(QueryFacts),
-    Refused(Refusal),
+    Refused(StreamRefusal),
 }
 
 fn within(x: usize, least: usize, most: usize) -> bool
@@ -36,23 +36,23 @@ pub(crate) fn query_head(input: &[u8], at: usize) -> QueryRead
 {
     // A tree with no query.
     if input.len() <= at {
-        return QueryRead::Refused(Refusal::Query(at));
+        return QueryRead::Refused(StreamRefusal::Query(at));
     }
     if input[at] != QUERY_HEAD {
-        return QueryRead::Refused(Refusal::Query(at));
+        return QueryRead::Refused(StreamRefusal::Query(at));
     }
     // Cut. Behind this test both numbers can be read.
     let next = at + 1 + body_length(QUERY_HEAD);
     if input.len() < next {
-        return QueryRead::Refused(Refusal::Query(at));
+        return QueryRead::Refused(StreamRefusal::Query(at));
     }
     let arity = input[at + 1] as usize;
     let states = input[at + 2] as usize;
     if !within(arity, 1, MOST_PLACES) {
-        return QueryRead::Refused(Refusal::Query(at));
+        return QueryRead::Refused(StreamRefusal::Query(at));
     }
     if !within(states, 1, MOST_STATES) {
-        return QueryRead::Refused(Refusal::Query(at));
+        return QueryRead::Refused(StreamRefusal::Query(at));
     }
     QueryRead::Query(QueryFacts {
         arity: arity,

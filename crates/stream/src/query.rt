@@ -21,7 +21,7 @@ use crate::keys::rule_key;
 use crate::keys::say;
 use crate::keys::state_key;
 use crate::lengths::body_length;
-use paper::Refusal;
+use paper::StreamRefusal;
 use paper::kinds::ACCEPTING_STATE;
 use paper::limits::MOST_RULES;
 
@@ -34,7 +34,7 @@ struct QueryState {
 
 enum QueryStep {
     Next(QueryState),
-    Refused(Refusal),
+    Refused(StreamRefusal),
 }
 
 // A rule that fits: one too many is refused 3, one whose kind and left side an earlier one has is
@@ -47,11 +47,11 @@ fn rule_record(input: &[u8], facts: QueryFacts, state: QueryState, said: &mut [u
 {
     let at = state.at;
     if MOST_RULES <= state.rules {
-        return QueryStep::Refused(Refusal::Query(at));
+        return QueryStep::Refused(StreamRefusal::Query(at));
     }
     let key = rule_key(input, facts, at);
     if say(&mut *said, key) {
-        return QueryStep::Refused(Refusal::Twice(at));
+        return QueryStep::Refused(StreamRefusal::Twice(at));
     }
     QueryStep::Next(QueryState {
         at: at + 1 + body_length(input[at]),
@@ -69,7 +69,7 @@ fn state_record(input: &[u8], facts: QueryFacts, state: QueryState, said: &mut [
     let at = state.at;
     let key = state_key(input, facts, at);
     if say(&mut *said, key) {
-        return QueryStep::Refused(Refusal::Twice(at));
+        return QueryStep::Refused(StreamRefusal::Twice(at));
     }
     QueryStep::Next(QueryState {
         at: at + 1 + body_length(ACCEPTING_STATE),
@@ -87,7 +87,7 @@ fn query_record(input: &[u8], facts: QueryFacts, state: QueryState, said: &mut [
 {
     let at = state.at;
     if !record_fits(input, facts, at) {
-        return QueryStep::Refused(Refusal::Query(at));
+        return QueryStep::Refused(StreamRefusal::Query(at));
     }
     // What fits and is no accepting state is a rule of either kind.
     if input[at] == ACCEPTING_STATE {

@@ -5,7 +5,7 @@ ghost use Prim.Native.Nat.{max};
 ghost use Rattle.stream.specs.OneRecord.{isTreeAt, AtTreeRecord, treeStep, saysTreeStep};
 ghost use Rattle.stream.specs.Reading.{saysTree, treeReply};
 use crate::lengths::body_length;
-use paper::Refusal;
+use paper::StreamRefusal;
 use paper::kinds::BRANCH;
 use paper::kinds::LEAF;
 use paper::limits::HIGHEST_LABEL;
@@ -21,7 +21,7 @@ pub struct TreeFacts {
 
 pub enum TreeRead {
     Tree(TreeFacts),
-    Refused(Refusal),
+    Refused(StreamRefusal),
 }
 
 // What the tree records up to a position make: nodes, subtrees unjoined, and the most of these so
@@ -35,7 +35,7 @@ struct TreeState {
 
 enum TreeStep {
     Next(TreeState),
-    Refused(Refusal),
+    Refused(StreamRefusal),
 }
 
 fn is_tree_record(input: &[u8], at: usize) -> bool
@@ -64,14 +64,14 @@ fn tree_record(input: &[u8], state: TreeState) -> TreeStep
     let kind = input[at];
     let next = at + 1 + body_length(kind);
     if MOST_NODES <= state.nodes {
-        return TreeStep::Refused(Refusal::ManyNodes(at));
+        return TreeStep::Refused(StreamRefusal::ManyNodes(at));
     }
     // Cut. Behind this test the label can be read.
     if input.len() < next {
-        return TreeStep::Refused(Refusal::Tree(at));
+        return TreeStep::Refused(StreamRefusal::Tree(at));
     }
     if HIGHEST_LABEL < input[at + 1] {
-        return TreeStep::Refused(Refusal::Tree(at));
+        return TreeStep::Refused(StreamRefusal::Tree(at));
     }
     // A leaf joins nothing, so no more is asked of it; and only with a leaf can the most grow.
     if kind == LEAF {
@@ -85,7 +85,7 @@ fn tree_record(input: &[u8], state: TreeState) -> TreeStep
     }
     // A branch makes one subtree of the last two.
     if state.unjoined < 2 {
-        return TreeStep::Refused(Refusal::Tree(at));
+        return TreeStep::Refused(StreamRefusal::Tree(at));
     }
     TreeStep::Next(TreeState {
         at: next,
@@ -119,7 +119,7 @@ pub fn read_tree(input: &[u8]) -> TreeRead
     }
     // With no node there is no subtree, so one subtree at the end is all that is asked here.
     if state.unjoined != 1 {
-        return TreeRead::Refused(Refusal::Tree(state.at));
+        return TreeRead::Refused(StreamRefusal::Tree(state.at));
     }
     TreeRead::Tree(TreeFacts {
         end: state.at,

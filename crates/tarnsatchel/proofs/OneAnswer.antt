@@ -28,7 +28,7 @@ module _ (work : List ℕ) (r s : ℕ) (work₁ work₂ : List ℕ) where
     a .worked ∙ sym (b .worked),
     a .written ∙ sym (b .written),
     a .shown ∙ sym (b .shown),
-    a .placed ∙ sym (b .placed),
+    a .position-is ∙ sym (b .position-is),
   )
 
   module _ (head : List ℕ) (table : List Record) where

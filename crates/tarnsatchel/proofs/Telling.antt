@@ -56,12 +56,12 @@ pub tells-refused : {A : Type 0} {reply : Reply A} {w : No} {r position′ : ℕ
     → position′ ≡ positionOr w position → TellsWhere reply old position r old position′
 tells-refused old position e n p = record {
   tells = record { number = n ∙ sym (ap code e); shown = sym (ap (λ x. answerAfter x old) e) };
-  placed = p ∙ sym (ap (λ x. positionAfter x position) e);
+  position-is = p ∙ sym (ap (λ x. positionAfter x position) e);
 }
 
 pub tells-built : {A : Type 0} {reply : Reply A} {a new : A} (old : A) (position : ℕ) → reply ≡ answer a → new ≡ a
     → TellsWhere reply old position 0 new position
-tells-built old position e f = record { tells = tells-answer old e f; placed = sym (ap (λ x. positionAfter x position) e) }
+tells-built old position e f = record { tells = tells-answer old e f; position-is = sym (ap (λ x. positionAfter x position) e) }
 
 pub tells-build : (input work : List ℕ) (table : List Record) (head : List ℕ) (position : ℕ) (b : Built) (r : ℕ) (work′ : List ℕ)
     (table′ : List Record) (head′ : List ℕ) (position′ : ℕ)
@@ -75,7 +75,7 @@ tells-build input work table head position b r work′ table′ head′ position
       worked = builds .worked;
       written = builds .written;
       shown = where-told .tells .shown ∙ ap (λ x. answerAfter x head) says;
-      placed = where-told .placed ∙ ap (λ x. positionAfter x position) says ∙ position-told (λ a. headNumbers (a .0)) reply position;
+      position-is = where-told .position-is ∙ ap (λ x. positionAfter x position) says ∙ position-told (λ a. headNumbers (a .0)) reply position;
     }
 
 -- text to tree, and tree to text

@@ -82,7 +82,7 @@ pub record Tells {A : Type 0} (reply : Reply A) (old : A) (r : ℕ) (new : A) : 
 -- and of one with a second for its position
 pub record TellsWhere {A : Type 0} (reply : Reply A) (old : A) (position r : ℕ) (new : A) (position′ : ℕ) : Type 0 where
   pub tells : Tells reply old r new
-  pub placed : position′ ≡ positionAfter reply position
+  pub position-is : position′ ≡ positionAfter reply position
 
 -- ---- the exported functions. In each, what is lent as it is before, the number returned, and what is lent as it is after
 pub record TellsBuild (input work : List ℕ) (table : List Record) (head : List ℕ) (position r : ℕ) (work′ : List ℕ) (table′ : List Record)
@@ -91,7 +91,7 @@ pub record TellsBuild (input work : List ℕ) (table : List Record) (head : List
   pub worked : work′ ≡ workAfter (build input (length work) (length table)) (workFor input) work
   pub written : table′ ≡ tableAfter (build input (length work) (length table)) table
   pub shown : head′ ≡ answerAfter (told (λ a. headNumbers (a .0)) (build input (length work) (length table))) head
-  pub placed : position′ ≡ positionAfter (build input (length work) (length table)) position
+  pub position-is : position′ ≡ positionAfter (build input (length work) (length table)) position
 
 pub record TellsCount (head : List ℕ) (table : List Record) (work : List ℕ) (rows : ℕ) (r : ℕ) (work′ : List ℕ) (rows′ : ℕ) : Type 0 where
   pub number : r ≡ code (count (headOf head) table (length work))

@@ -2,7 +2,7 @@
 // name; then the head's six numbers read and written; then each answer as a number. Nothing is decided here but how an answer looks
 // from C, so each contract is that of the function below it, told in numbers (specs/Told.antt).
 ghost use mathlib.Core.Path.{_≡_};
-ghost use Rattle.paper.specs.Answers.{noOf, told, saysBuilt, saysConverted, saysCounted, saysFixed, saysMember, saysProjected, saysWritten};
+ghost use Rattle.paper.specs.Answers.{noOfStream, told, saysBuilt, saysConverted, saysCounted, saysFixed, saysMember, saysProjected, saysWritten};
 ghost use Rattle.tarnsatchel.specs.Told.{setKind, setRecord, headNumbers, setOf, headOf, code, listedNumber, positionOr, Tells, TellsWhere};
 ghost use Rattle.tarnsatchel.specs.Told.{TellsBuild, TellsCount, TellsRow, TellsMember, TellsProject, TellsFix, TellsText, TellsTree};
 use paper::Built;
@@ -14,17 +14,16 @@ use paper::Member;
 use paper::Position;
 use paper::Projected;
 use paper::Record;
-use paper::Refusal;
 use paper::Set;
+use paper::StreamRefusal;
 use paper::Written;
 
 // A head goes to C as so many numbers: nodes, arity, open places, records used, the kind of the set, its record.
 const HEAD_NUMBERS: usize = 6;
 
 // In every function: 0 is returned with an answer, else the refusal's number, and then an out parameter is as it was, but for the position
-// of a build. From C a slice is
-// a pointer and how many elements stand behind it, and an array or a number that is lent is a pointer. That so many elements are there,
-// and that none is lent twice at once, is all that is asked of a caller (docs/PROMISES.md, 'What is believed').
+// of a build. From C a slice is a pointer and how many elements stand behind it, and an array or a number that is lent is a pointer. That
+// so many elements are there, and that none is lent twice at once, is all that is asked of a caller (docs/PROMISES.md, 'What is believed').
 
 // Builds the set of a stream; `head` is its head's numbers, written with an answer only. `position` is written with refusals 1 to 4 only:
 // the byte position of what is at fault.
@@ -219,7 +218,7 @@ fn tell_build(built: Built, head: &mut [u16; HEAD_NUMBERS], position: &mut usize
 {
     match built {
         Built::Refused(r) => {
-            *position = position_after(r, *position);
+            tell_position(r, &mut *position);
             r.number()
         }
         Built::Set(h) => {
@@ -229,13 +228,15 @@ fn tell_build(built: Built, head: &mut [u16; HEAD_NUMBERS], position: &mut usize
     }
 }
 
-// The position of a refusal that has one, or what was there.
-fn position_after(why: Refusal, old: usize) -> usize
-    ensures { λ p. ⌜ p ≡ positionOr (noOf why) old ⌝ }
+// The position of a refusal that has one. Nothing is read and nothing is written for the others.
+fn tell_position(why: StreamRefusal, position: &mut usize)
+    ensures { λ _. ⌜ now (position .exit) ≡ positionOr (noOfStream why) (now (position .entry)) ⌝ }
 {
     match why.position() {
-        Position::At(at) => at,
-        Position::None => old,
+        Position::At(at) => {
+            *position = at;
+        }
+        Position::None => {}
     }
 }
 

@@ -11,6 +11,7 @@ use libc::STDOUT_FILENO;
 use lines::put_refusal;
 use paper::Converted;
 use paper::Refusal;
+use paper::StreamRefusal;
 use text::LONGEST_IMAGE;
 
 mod handed;
@@ -26,12 +27,12 @@ fn answer(input: &[u8], out: &mut [u8]) -> usize
     ensures { λ r. ⌜ Stands (now (input .entry)) r (now (out .exit)) ⌝ }
 {
     if input.len() > LONGEST_INPUT {
-        return put_refusal(&mut *out, Refusal::LongInput);
+        return put_refusal(&mut *out, StreamRefusal::Other(Refusal::LongInput));
     }
     let converted = text::text_to_tree(input, &mut *out);
     match converted {
         Converted::Bytes(bytes) => bytes,
-        Converted::Refused(why) => put_refusal(&mut *out, why),
+        Converted::Refused(why) => put_refusal(&mut *out, StreamRefusal::Other(why)),
     }
 }
 

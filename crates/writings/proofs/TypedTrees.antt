@@ -7,7 +7,7 @@ use native.Mathlib.Omega.{arith}
 use lib.Dec.{leb}
 use lib.ListN.{length}
 use Rattle.paper.specs.Image.{imageBytes, imageRecords, imageTree}
-use Rattle.paper.specs.Refusals.{No, Test, build, madeFrom, no, numberIn, queryPart, refused, treeIn, treePart, workFor}
+use Rattle.paper.specs.Refusals.{No, Test, build, madeFrom, no, numberIn, queryPart, refused, treeIn, treePart, workFor, treeEnd}
 use Rattle.paper.specs.Stream.{behind, queryRecords, recordsOf, treeRecords}
 use Rattle.paper.specs.Tree.{lastOf, treeOf}
 use Rattle.paper.specs.WrittenTree.{Allowed, WrittenTree, forestOf}
@@ -35,7 +35,7 @@ module _ (w : WrittenTree) (query : List ℕ) (begins : treeRecords (recordsOf q
 pub typed-never-refused : (w : WrittenTree) → Allowed w → (query : List ℕ) → treeRecords (recordsOf query) ≡ [] → (workLength tableLength : ℕ) (n : No)
     → build (imageBytes w ++ query) workLength tableLength ≡ refused n → 3 ≤ numberIn n
 typed-never-refused w a query begins workLength tableLength n e =
-    says-refused FromThree (queryTests ++ last) _ from-three
+    says-refused FromThree (ofQuery ++ last) _ from-three
     (sym (unless-append (treePart (treeRecords (recordsOf input))) _ _ (typed-passes w query begins a)) ∙ e)
   where
     input : List ℕ
@@ -44,8 +44,8 @@ typed-never-refused w a query begins workLength tableLength n e =
     FromThree : No → Type 0
     FromThree m = 3 ≤ numberIn m
 
-    queryTests : List Test
-    queryTests = queryPart (behind 0 (treeRecords (recordsOf input))) (queryRecords (recordsOf input))
+    ofQuery : List Test
+    ofQuery = queryPart (treeEnd input) (queryRecords (recordsOf input))
 
     -- 5 and 6
     last : List Test
@@ -58,7 +58,7 @@ typed-never-refused w a query begins workLength tableLength n e =
     weaker [] h = tt
     weaker (t ∷ ts) h = (h .0 .0, weaker ts (h .1))
 
-    from-three : EachSays FromThree (queryTests ++ last)
+    from-three : EachSays FromThree (ofQuery ++ last)
     from-three =
-        says-append FromThree queryTests last
-        (weaker queryTests (query-says (behind 0 (treeRecords (recordsOf input))) (queryRecords (recordsOf input)))) (omega arith, (omega arith, tt))
+        says-append FromThree ofQuery last
+        (weaker ofQuery (query-says (treeEnd input) (queryRecords (recordsOf input)))) (omega arith, (omega arith, tt))

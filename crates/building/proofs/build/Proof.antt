@@ -34,13 +34,13 @@ use Rattle.table.proofs.blank.Symbol as blank-def
 use Rattle.table.proofs.blank.Symbol.{name as #table·blank}
 use Rattle.table.proofs.blank.Met as blank-thm
 use Rattle.paper.specs.Records.{blankEntry}
-use Rattle.paper.specs.declared.Refusal.{Refusal}
+use Rattle.paper.specs.declared.StreamRefusal.{StreamRefusal}
 use Rattle.paper.specs.declared.Built.{Built}
 use Rattle.paper.specs.declared.Built.the-variants.{Refused}
 use Rattle.paper.proofs.Built as B
 use Rattle.paper.proofs.Built.Laws as B′
-use Rattle.paper.proofs.Refusal as R
-use Rattle.paper.proofs.Refusal.Laws as R′
+use Rattle.paper.proofs.StreamRefusal as R
+use Rattle.paper.proofs.StreamRefusal.Laws as R′
 use Rattle.building.specs.Batch.{Record}
 use Rattle.building.specs.Bounds.{batchNumbers}
 use Rattle.building.specs.Listed.{lookupNumbers}
@@ -80,13 +80,13 @@ stayed = (gone (shown 0 tt u8), (still 1 tt u64, (still 2 tt Entry, tt)))
 state-good : (s : State) → Is G.the-row (BegunIs.Going s) (G′.lowered (BegunIs.Going s) ∷ []) → Is S.the-row s (machine shape s ∷ [])
 state-good s good = LE.owed G.the-type G′.the-laws (BegunIs.Going s) _ good .0
 
-refusal-good : (r : Refusal) → Is G.the-row (BegunIs.Refused r) (G′.lowered (BegunIs.Refused r) ∷ []) → Is R.the-row r (R′.lowered r ∷ [])
+refusal-good : (r : StreamRefusal) → Is G.the-row (BegunIs.Refused r) (G′.lowered (BegunIs.Refused r) ∷ []) → Is R.the-row r (R′.lowered r ∷ [])
 refusal-good r good = subst (Is R.the-row r) (R′.lowers .val-is r _ it) it
   where
     it : Is R.the-row r (LE.vals R.the-type R′.the-laws r)
     it = LE.owed G.the-type G′.the-laws (BegunIs.Refused r) _ good .0
 
-answer-good : (r : Refusal) → Is G.the-row (BegunIs.Refused r) (G′.lowered (BegunIs.Refused r) ∷ [])
+answer-good : (r : StreamRefusal) → Is G.the-row (BegunIs.Refused r) (G′.lowered (BegunIs.Refused r) ∷ [])
     → Is B.the-row (Refused r) (B′.lowered (Refused r) ∷ [])
 answer-good r good = subst (Is B.the-row (Refused r)) (B′.lowers .val-is (Refused r) _ it) it
   where
@@ -234,7 +234,7 @@ module _ {M : Type 1} (𝓤 : URA M) (H : Heap 𝓤) (A : Atoms 𝓤) (W : Given
     answer-typed : (r : Built) → Is B.the-row r (B′.lowered r ∷ []) → Typed B′.mir (B′.lowered r)
     answer-typed r good = LE.lawful B.the-type B′.the-laws 𝓤 H A W tt .typed r (B′.lowered r ∷ []) good .0
 
-    refusal-typed : (r : Refusal) → Is R.the-row r (R′.lowered r ∷ []) → Typed R′.mir (R′.lowered r)
+    refusal-typed : (r : StreamRefusal) → Is R.the-row r (R′.lowered r ∷ []) → Typed R′.mir (R′.lowered r)
     refusal-typed r good = LE.lawful R.the-type R′.the-laws 𝓤 H A W tt .typed r (R′.lowered r ∷ []) good .0
 
     begun-typed : (g : Begun) → Is G.the-row g (G′.lowered g ∷ []) → Typed G′.mir (G′.lowered g)
@@ -356,7 +356,7 @@ module _ {M : Type 1} (𝓤 : URA M) (H : Heap 𝓤) (A : Atoms 𝓤) (W : Given
             (λ over t′ blank-now. over-face input work table s w₁ lists g e t w d long₁ long r (us .1 .0) f over t′ table-long blank-now)))))
 
         -- the arm of a refusal
-        refuses : (r : Refusal) (w lists : List ℕ) → Is G.the-row (BegunIs.Refused r) (G′.lowered (BegunIs.Refused r) ∷ []) → length w ≡ length work
+        refuses : (r : StreamRefusal) (w lists : List ℕ) → Is G.the-row (BegunIs.Refused r) (G′.lowered (BegunIs.Refused r) ∷ []) → length w ≡ length work
             → length lists ≡ lookupNumbers → Begins input work (length table) (BegunIs.Refused r) w lists
             → Sq W (Begun-context (BegunIs.Refused r) w lists) (runs (𝓣 .C) (𝓣 .Λ) env body.t-8 (atRet env Post))
         refuses r w lists good long lists-long e =

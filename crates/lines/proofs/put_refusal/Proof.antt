@@ -1,7 +1,7 @@
 -- `put_refusal` puts the word and the paper's number, and the position that 1 to 4 have.
 use mathlib.Core.Path.{_∙_, ap, sym}
 use borrow.Author.Needs.{needs}
-use Rattle.paper.specs.Answers.{noOf, saysPosition}
+use Rattle.paper.specs.Answers.{noOfStream, saysPosition}
 use Rattle.lines.proofs.Putting.{put-alone, put-at}
 use Rattle.lines.proofs.put_refusal.Statement.{statement}
 use Rattle.lines.proofs.put_refusal.Tie as tie
@@ -46,7 +46,7 @@ returns : tie.Need-returns
 returns c =
     let position = c .before .before .before .before .before .before .before .before in
     let a = c .before .before .before .before .before .before .before .before .before .before .before .before .before .before .before .before .before .before .before .before .args in
-    put-at (noOf (a .why)) _ (c .before .before .before .before .before .before .before .before .before .before .before .before .number .ensures) (0, a .text .now) (position .before .before .before .before .before .before .before .before .put-word .ensures) (position .before .before .before .put-number .ensures) _
+    put-at (noOfStream (a .why)) _ (c .before .before .before .before .before .before .before .before .before .before .before .before .number .ensures) (0, a .text .now) (position .before .before .before .before .before .before .before .before .put-word .ensures) (position .before .before .before .put-number .ensures) _
     (ap saysPosition (sym (c .before .before .before .before .before .before .at .given .1)) ∙ position .position .ensures) (c .before .before .put-fact .ensures)
 
 same-length-2 : tie.Need-same-length-2
@@ -56,7 +56,7 @@ returns-2 : tie.Need-returns-2
 returns-2 c =
     let position = c .before .before .before .before .before .before in
     let a = c .before .before .before .before .before .before .before .before .before .before .before .before .before .before .before .before .before .before .args in
-    put-alone (noOf (a .why)) _ (c .before .before .before .before .before .before .before .before .before .before .number .ensures) (0, a .text .now) (position .before .before .before .before .before .before .before .before .put-word .ensures) (position .before .before .before .put-number .ensures)
+    put-alone (noOfStream (a .why)) _ (c .before .before .before .before .before .before .before .before .before .before .number .ensures) (0, a .text .now) (position .before .before .before .before .before .before .before .before .put-word .ensures) (position .before .before .before .put-number .ensures)
     (ap saysPosition (sym (c .before .before .before .before .enum-told .given .1)) ∙ position .position .ensures) (c .before .before .put-byte .ensures)
 
 pub put-refusal-spec : {M : Type 1} → statement M

@@ -10,8 +10,8 @@ use Rattle.tarnsatchel.proofs.tell_build.Tie as tie
 enum-known-built : tie.Need-enum-known-built
 enum-known-built c = search needs
 
-position-after-requires : tie.Need-position-after-requires
-position-after-requires c κs = search needs
+tell-position-requires : tie.Need-tell-position-requires
+tell-position-requires c κs = search needs
 
 number-requires : tie.Need-number-requires
 number-requires c κs = search needs
@@ -26,7 +26,7 @@ returns : tie.Need-returns
 returns c =
     let a = c .before .before .before .before .before .before .args in
     tells-refused (a .head .now) (a .position .now) (ap (λ x. told headNumbers (saysBuilt x)) (c .before .before .before .before .built .given .1)) (c .number .ensures)
-    (c .before .position-after .ensures)
+    (c .before .tell-position .ensures)
 
 returns-2 : tie.Need-returns-2
 returns-2 c =
@@ -39,7 +39,7 @@ tell-build-spec =
     tie.close
     (tie.spec
     enum-known-built
-    position-after-requires
+    tell-position-requires
     number-requires
     enum-known-built-2
     numbers-of-requires

@@ -37,20 +37,20 @@ sub-open-places c = omega (arith, c .flags .ensures, small (c .before))
 set-of-requires : tie.Need-set-of-requires
 set-of-requires c κs = tt
 
-cast-t11 : tie.Need-cast-t11
-cast-t11 c = omega (arith, small (c .before .before .before))
-
 cast-t12 : tie.Need-cast-t12
-cast-t12 c = omega (arith, small (c .before .before .before .before))
+cast-t12 c = omega (arith, small (c .before .before .before))
 
 cast-t13 : tie.Need-cast-t13
-cast-t13 c = omega (arith, c .before .before .before .flags .ensures, small (c .before .before .before .before))
+cast-t13 c = omega (arith, small (c .before .before .before .before))
+
+cast-t14 : tie.Need-cast-t14
+cast-t14 c = omega (arith, c .before .before .before .flags .ensures, small (c .before .before .before .before))
 
 add-t8 : tie.Need-add-t8
 add-t8 c = omega (arith, small (c .before .before .before .before .before))
 
-cast-t14 : tie.Need-cast-t14
-cast-t14 c = omega (arith, small (c .before .before .before .before .before))
+cast-t15 : tie.Need-cast-t15
+cast-t15 c = omega (arith, small (c .before .before .before .before .before))
 
 same-length-2 : tie.Need-same-length-2
 same-length-2 c = search needs
@@ -77,10 +77,10 @@ finish-spec =
     flags-requires
     sub-open-places
     set-of-requires
-    cast-t11
     cast-t12
     cast-t13
-    add-t8
     cast-t14
+    add-t8
+    cast-t15
     same-length-2
     returns-2)

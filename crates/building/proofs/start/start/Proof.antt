@@ -65,14 +65,14 @@ returns c =
 record-limit-requires : tie.Need-record-limit-requires
 record-limit-requires c κs = search needs
 
-cast-t13 : tie.Need-cast-t13
-cast-t13 c =
+cast-t14 : tie.Need-cast-t14
+cast-t14 c =
     let wide = c .before .before in
     let start = wide .before .before .before .before .before in
     omega (arith, asked-fits (start .args .input .now) (start .args .tree) (start .args .query) (facts start) (wide .frame-width .ensures))
 
-cast-t14 : tie.Need-cast-t14
-cast-t14 c = search needs
+cast-t15 : tie.Need-cast-t15
+cast-t15 c = search needs
 
 list-rules-requires : tie.Need-list-rules-requires
 list-rules-requires c κs = search needs
@@ -149,8 +149,8 @@ start-spec =
     mul-asked
     returns
     record-limit-requires
-    cast-t13
     cast-t14
+    cast-t15
     list-rules-requires
     sub-note
     part-note-start

@@ -28,8 +28,8 @@ facts-requires c κs = search needs
 nothing-requires : tie.Need-nothing-requires
 nothing-requires c κs = search needs
 
-cast-t18 : tie.Need-cast-t18
-cast-t18 c = search needs
+cast-t19 : tie.Need-cast-t19
+cast-t19 c = search needs
 
 same-length : tie.Need-same-length
 same-length c = search needs
@@ -67,7 +67,7 @@ open-page-spec =
     enum-known-counted-2
     facts-requires
     nothing-requires
-    cast-t18
+    cast-t19
     same-length
     returns
     same-length-2

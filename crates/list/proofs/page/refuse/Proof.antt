@@ -2,7 +2,7 @@
 use mathlib.Core.Path.{refl}
 use native.Mathlib.Omega.{arith}
 use borrow.Author.Needs.{needs}
-use Rattle.paper.specs.Answers.{noOf}
+use Rattle.paper.specs.Answers.{noOfStream}
 use Rattle.lines.proofs.Putting.{puts-refusal, refusal-short}
 use Rattle.list.proofs.page.refuse.Statement.{statement}
 use Rattle.list.proofs.page.refuse.Tie as tie
@@ -19,9 +19,9 @@ same-length c = search needs
 returns : tie.Need-returns
 returns c =
     let start = c .before .before .before .before .before .before in
-    let short = refusal-short (noOf (start .args .why)) in
+    let short = refusal-short (noOfStream (start .args .why)) in
     let put =
-    puts-refusal (noOf (start .args .why)) 0 (start .args .text .now) (omega (arith, short, start .pre .0))
+    puts-refusal (noOfStream (start .args .why)) 0 (start .args .text .now) (omega (arith, short, start .pre .0))
     (c .before .before .before .put-refusal .ensures) in
     record { stands = put .stands; bytes = omega (arith, put .ends, short); unhanded = c .nothing .ensures; stops = refl }
 
