@@ -69,9 +69,9 @@ pub fn put_refusal(text: &mut [u8], why: StreamRefusal) -> usize
         0,
         &[b'r', b'e', b'f', b'u', b's', b'e', b'd', b' '],
     );
-    let end = put_number(&mut *text, word, why.number() as u64);
+    let number = put_number(&mut *text, word, why.number() as u64);
     match why.position() {
-        Position::At(at) => put_fact(&mut *text, end, &[b' ', b'a', b't', b' '], at as u64),
-        Position::None => put_byte(&mut *text, end, b'\n'),
+        Position::At(at) => put_fact(&mut *text, number, &[b' ', b'a', b't', b' '], at as u64),
+        Position::None => put_byte(&mut *text, number, b'\n'),
     }
 }

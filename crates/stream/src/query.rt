@@ -45,10 +45,10 @@ fn rule_record(input: &[u8], facts: QueryFacts, state: QueryState, said: &mut [u
     ensures { λ r. ⌜ saysQueryStep r ≡ queryStep (now (input .entry)) facts (state .at) ⌝ }
     ensures { λ r. ⌜ TableAfter (now (input .entry)) facts r (now (said .exit)) ⌝ }
 {
-    let at = state.at;
     if MOST_RULES <= state.rules {
-        return QueryStep::Refused(StreamRefusal::Query(at));
+        return QueryStep::Refused(StreamRefusal::Query(state.at));
     }
+    let at = state.at;
     let key = rule_key(input, facts, at);
     if say(&mut *said, key) {
         return QueryStep::Refused(StreamRefusal::Twice(at));
@@ -69,7 +69,7 @@ fn state_record(input: &[u8], facts: QueryFacts, state: QueryState, said: &mut [
     let at = state.at;
     let key = state_key(input, facts, at);
     if say(&mut *said, key) {
-        return QueryStep::Refused(StreamRefusal::Twice(at));
+        return QueryStep::Refused(StreamRefusal::Twice(state.at));
     }
     QueryStep::Next(QueryState {
         at: at + 1 + body_length(ACCEPTING_STATE),
