@@ -70,8 +70,8 @@ enum {
  * Returns 0, or 1, 2 (tree), 3, 4 (query), 5, 6: the tree first, then the query, and in each the first record at fault.
  * Position: written with 1 to 4 only, and with 0, 5 and 6 as it was. It counts bytes of the input from 0 and is that of the
  * same first fault: the first byte of the record at fault; where the tree ends with nothing or with several subtrees, the place
- * where it ended; where the input ends before a head, its length. So it is at most input_length, and where it
- * is input_length no byte stands there.
+ * where it ended; where the input ends before a head, its length. So it is at most input_length, and where it is input_length
+ * no byte stands there.
  * Work: (1 + the most subtrees ever unjoined) * states * 2 to the arity.
  * Table: the records made stand first, the rest is as it was; after 6 every entry is blank, after 1 to 5 all is as it was. */
 uint8_t tarn_build(const uint8_t *input, size_t input_length, uint64_t *work, size_t work_length, tarn_record *table,

@@ -177,7 +177,7 @@ fn unless_refused_at<A>(position: usize, number: u8, answer: A) -> Result<A, Ref
     }
 }
 
-/// The refusal of a number, which is what it says itself. The library returns no other.
+/// The refusal whose own `number()` this is. The library returns no number but 0 and these.
 fn refusal(number: u8, position: usize) -> Refusal {
     all_refusals(position).into_iter().find(|refusal| refusal.number() == number).expect("a number from 1 to 15")
 }

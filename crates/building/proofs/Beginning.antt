@@ -11,7 +11,7 @@ use lib.ListN.{drop, length, length-drop, take}
 use lib.Seq.{drop-length}
 use Rattle.paper.specs.Refusals.{No, Test, answer, build, headFrom, madeFrom, no, nodesIn, numberIn, queryIn, queryPart, refused, treeEnd}
 use Rattle.paper.specs.Refusals.{treePart, unless, workFor}
-use Rattle.paper.specs.Stream.{StreamRecord, behind, queryRecords, recordsOf, treeRecords}
+use Rattle.paper.specs.Stream.{StreamRecord, queryRecords, recordsOf, treeRecords}
 use Rattle.paper.specs.Tree.{mostUnjoined}
 use Rattle.laws.proofs.AtEach.{ThreeOrFour, query-says, tree-says}
 use Rattle.laws.proofs.ReadTree.{tree-read}

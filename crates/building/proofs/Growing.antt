@@ -15,7 +15,7 @@ use Rattle.paper.specs.Lists.{has, through, upTo}
 use Rattle.paper.specs.Query.{Query, Rule, branchRule, leafRule}
 use Rattle.paper.specs.Records.{productOf, singleOf, unionOf}
 use Rattle.paper.specs.Refusals.{Test, answer, build, headFrom, madeFrom, queryPart, refused, treePart, workFor, no, treeEnd}
-use Rattle.paper.specs.Stream.{StreamRecord, behind, number, queryRecords, recordsOf, treeRecords}
+use Rattle.paper.specs.Stream.{StreamRecord, number, queryRecords, recordsOf, treeRecords}
 use Rattle.paper.specs.Tree.{Tree, root, treeOf}
 use Rattle.laws.proofs.Replies.{Passes, unless-append}
 use Rattle.laws.specs.Plain.{Head, Record, Set, at, empty, unit}

@@ -10,7 +10,7 @@ use lib.ListN.{drop}
 use Rattle.paper.specs.Lists.{_∈_}
 use Rattle.paper.specs.Query.{acceptingOf, queryOf, rulesOf}
 use Rattle.paper.specs.Refusals.{answer, atEach, headTests, nodesIn, queryEndTests, queryIn, queryPart, queryTests, testsAt, treePart, treeEnd}
-use Rattle.paper.specs.Stream.{StreamRecord, behind, number, queryRecords, recordsOf, treeRecords, whole}
+use Rattle.paper.specs.Stream.{StreamRecord, number, queryRecords, recordsOf, treeRecords, whole}
 use Rattle.laws.proofs.AtEach.{at-passes, part-each}
 use Rattle.laws.proofs.Lists.{both-true}
 use Rattle.laws.proofs.Replies.{Passes, answered, passes-left}

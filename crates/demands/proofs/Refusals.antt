@@ -56,17 +56,17 @@ told-same (refused n) = refl
 told-same (answer a) = refl
 
 -- a result that says what a reply is, where that is exact
-module _ {Why Result A B : Type 0} (number : Why → No) (Refused : Why → Result) (says : Result → Reply B)
-    (refuses : (why : Why) → says (Refused why) ≡ refused (number why)) (cases : (r : Result) → Told Refused says r) where
+module _ {Why Result A B : Type 0} (no-of : Why → No) (Refused : Why → Result) (says : Result → Reply B)
+    (refuses : (why : Why) → says (Refused why) ≡ refused (no-of why)) (cases : (r : Result) → Told Refused says r) where
   pub exact-reply : (f : A → B) (reply : Reply A) (r : Result) → says r ≡ told f reply → {First : No → Type 0} {None : Type 0}
-      → ((n : No) → (reply ≡ refused n) ↔ First n) → ((a : A) × (reply ≡ answer a)) ↔ None → Exact number Refused r First None
+      → ((n : No) → (reply ≡ refused n) ↔ First n) → ((a : A) × (reply ≡ answer a)) ↔ None → Exact no-of Refused r First None
   exact-reply f reply r is {First} {None} firsts none = record {
     returns = λ n. Iff·trans (returned n) (Iff·trans (told-refused f reply n) (firsts n));
     answers = Iff·trans (λ w. given (cases r) w, λ (a, e) why q. refused-not-answer (sym (refuses why) ∙ ap says (sym q) ∙ is ∙ ap (told f) e)) none;
   }
     where
       -- what is returned is what is said
-      returned : (n : No) → Returns number Refused r n ↔ (told f reply ≡ refused n)
+      returned : (n : No) → Returns no-of Refused r n ↔ (told f reply ≡ refused n)
       returned n = (
         λ (why, e, said). sym is ∙ ap says e ∙ refuses why ∙ ap refused said,
         λ e. ⊎-elim
@@ -76,13 +76,13 @@ module _ {Why Result A B : Type 0} (number : Why → No) (Refused : Why → Resu
       )
 
       -- an answer said is the answer
-      given : Told Refused says r → Answered number Refused r → (a : A) × (reply ≡ answer a)
+      given : Told Refused says r → Answered no-of Refused r → (a : A) × (reply ≡ answer a)
       given (inl (why, q)) w = absurd (w why q)
       given (inr (b, q)) w = told-answer f reply b (sym is ∙ q)
 
   -- and what tests in an order come to
   exact : (f : A → B) (ts : List Test) (a : A) (r : Result) → says r ≡ told f (unless ts a) → {First : No → Type 0} {None : Type 0}
-      → ((n : No) → (unless ts a ≡ refused n) ↔ First n) → (unless ts a ≡ answer a) ↔ None → Exact number Refused r First None
+      → ((n : No) → (unless ts a ≡ refused n) ↔ First n) → (unless ts a ≡ answer a) ↔ None → Exact no-of Refused r First None
   exact f ts a r is firsts none =
       exact-reply f (unless ts a) r is firsts (Iff·trans (λ (b, e). e ∙ ap answer (sym (answered ts e .1)), λ e. (a, e)) none)
 

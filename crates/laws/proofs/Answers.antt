@@ -38,10 +38,11 @@ numbered n =
     getD (ShortWork ∷ ShortTable ∷ Place ∷ Node ∷ RowNumber ∷ ShortOutput ∷ NotSound ∷ UnitTwice ∷ RowLength ∷ LongInput ∷ Text ∷ []) (n - 5)
     ShortWork
 
--- and the one that says this, 1 to 4 with a position and the others alone
+-- the refusal that says this, of those from 5 on
 abbrev pub refusalOf : No → Refusal
 refusalOf w = numbered (numberIn w)
 
+-- and of a stream, 1 to 4 with a position and the others alone
 abbrev pub streamRefusalOf : No → StreamRefusal
 streamRefusalOf (noAt n p) = getD (Tree p ∷ ManyNodes p ∷ Query p ∷ Twice p ∷ []) (n - 1) (Tree p)
 streamRefusalOf (no n) = Other (numbered n)

@@ -83,7 +83,7 @@ refused-append {A} {B} (t ∷ ts) us a b {n} e = go (t .1) e (refused-append ts 
     go true e′ ih = ih e′
     go false e′ ih = ap refused (refused-inj e′)
 
--- what each test of the list would say, the refusal says
+-- this holds of what each test of the list would say; then it holds of what a refusal says
 abbrev pub EachSays : (No → Type 0) → List Test → Type 0
 EachSays P [] = Unit {0}
 EachSays P (t ∷ ts) = P (t .0) × EachSays P ts

@@ -139,7 +139,8 @@ puts-refusal (noAt n p) at text room e =
     second = puts (numberText n) (s₁ .0) (s₁ .1) (omega (arith, parts, room, first .ends, long₁)) refl
 
 -- what is put one after the other, by whether there is a position
-module _ (w : No) (n : ℕ) (number : n ≡ numberIn w) (s : ℕ × List ℕ) {s₁ s₂ : ℕ × List ℕ} (word : put refusedWord s ≡ s₁) (digits : put (numberText n) s₁ ≡ s₂) where
+module _ (w : No) (n : ℕ) (number : n ≡ numberIn w) (s : ℕ × List ℕ)
+    {s₁ s₂ : ℕ × List ℕ} (word : put refusedWord s ≡ s₁) (digits : put (numberText n) s₁ ≡ s₂) where
   -- behind the number
   numbered : put (numberText (numberIn w)) (put refusedWord s) ≡ s₂
   numbered = ap₂ (λ (m : ℕ) (t : ℕ × List ℕ). put (numberText m) t) (sym number) word ∙ digits

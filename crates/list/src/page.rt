@@ -37,7 +37,8 @@ pub(crate) struct Page {
     pub(crate) going: bool,
 }
 
-// The line of the refusal, and no more. The text is empty then, and has room for it: it is shorter than the two lines before the rows can be.
+// The line of the refusal, and no more. The text is empty then, and has room for it: it is shorter than the two lines before the rows
+// can be.
 pub(crate) fn refuse(why: StreamRefusal, text: &mut [u8]) -> Page
     requires { ⌜ (longestOpening ≤ length (now text)) × (length (now text) ≤ largestText) ⌝ }
     ensures { λ r. ⌜ Refuses (noOfStream why) r (now (text .exit)) ⌝ }

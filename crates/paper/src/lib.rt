@@ -50,9 +50,9 @@ impl Place {
     pub const BLANK: u16 = 65535;
 }
 
-// The numbers that say no, from 5 on, in the order of their table, each case named after its cause. It is one enum for all calls, so that a
-// number means the same wherever it is met; which call gives which, and which first, is said in specs/Refusals.antt, and for the two calls
-// of request 2026-01 in specs/Conversions.antt.
+// The numbers that say no, from 5 on, in the order of their table, each case named after its cause. It is one enum for all calls, which
+// a build has inside `StreamRefusal`, so that a number means the same wherever it is met; which call gives which, and which first, is
+// said in specs/Refusals.antt, and for the two calls of request 2026-01 in specs/Conversions.antt.
 pub enum Refusal {
     ShortWork,
     ShortTable,
@@ -89,8 +89,9 @@ impl Refusal {
     }
 }
 
-// What says no to a stream: 1 to 4, each with the byte position of what is at fault (request 2026-04), or one of the others. It is a type of
-// its own, so that what only has a number stays a byte: the questions carry one from turn to turn.
+// What says no to a stream: 1 to 4, each with the byte position of what is at fault (request 2026-04), or one of the others. The
+// programs tell every refusal as one of these. It is a type of its own, so that what only has a number stays a byte: the questions carry
+// one from turn to turn.
 pub enum StreamRefusal {
     Tree(usize),
     ManyNodes(usize),

@@ -13,7 +13,7 @@ use lib.Seq.{drop-drop}
 use Rattle.paper.specs.Lists.{_∈_}
 use Rattle.paper.specs.Query.{Query, acceptingOf, queryOf, rulesOf}
 use Rattle.paper.specs.Refusals.{answer, atEach, headTests, laterTests, nodesIn, queryEndTests, queryIn, queryPart, queryTests, testsAt, treeEndTests, treePart, treeTests, unless, treeEnd}
-use Rattle.paper.specs.Stream.{StreamRecord, behind, bodyLength, isTreeKind, number, queryRecords, recordsOf, treeRecords, whole}
+use Rattle.paper.specs.Stream.{StreamRecord, bodyLength, isTreeKind, number, queryRecords, recordsOf, treeRecords, whole}
 use Rattle.laws.specs.StreamCauses.{AllTree, TreeKind}
 use Rattle.laws.proofs.AtEach.{part-each}
 use Rattle.laws.proofs.Lists.{both-true, which}
@@ -74,7 +74,7 @@ facts-after-tree input = λ i. record {
   rules = 2 * nodesIn input + 3;
 }
 
--- the tree's records, which are whole where their tests pass, end there
+-- the tree's records are of its kinds
 tree-kinds : (records : List StreamRecord) → AllTree (treeRecords records)
 tree-kinds [] r m = absurd (List·Memᴰ·not-nil m)
 tree-kinds (x ∷ xs) r m = go (isTreeKind (x .kind)) refl m (tree-kinds xs r)
@@ -83,8 +83,9 @@ tree-kinds (x ∷ xs) r m = go (isTreeKind (x .kind)) refl m (tree-kinds xs r)
     go true e n later = ⊎-elim (λ is. subst (λ z. TreeKind (z .kind)) (sym is) (tree-kind (x .kind) e)) later (List·Memᴰ·cases-cons n)
     go false e n later = absurd (List·Memᴰ·not-nil n)
 
-pub behind-records : (input : List ℕ) → Passes (treePart (treeRecords (recordsOf input))) → treeEnd input ≡ 2 * nodesIn input
-behind-records input p =
+-- where its tests pass the tree ends two bytes behind each of its nodes
+pub tree-ends-at : (input : List ℕ) → Passes (treePart (treeRecords (recordsOf input))) → treeEnd input ≡ 2 * nodesIn input
+tree-ends-at input p =
     omega (arith, behind-written 0 (treeRecords (recordsOf input)), tree-bytes (treeRecords (recordsOf input)) (tree-kinds (recordsOf input)) are-whole)
   where
     are-whole : (r : StreamRecord) → r ∈ treeRecords (recordsOf input) → length (r .body) ≡ bodyLength (r .kind)
@@ -97,7 +98,7 @@ pub reply-after-tree : (input : List ℕ) → Passes (treePart (treeRecords (rec
     → queryReply input (2 * nodesIn input)
     ≡ unless (queryPart (treeEnd input) (queryRecords (recordsOf input))) (queryFacts input (2 * nodesIn input))
 reply-after-tree input p =
-    ap₂ (λ from records. unless (queryPart from records) (queryFacts input (2 * nodesIn input))) (sym (behind-records input p))
+    ap₂ (λ from records. unless (queryPart from records) (queryFacts input (2 * nodesIn input))) (sym (tree-ends-at input p))
     (sym (query-after-tree input))
 
 -- ---- a query that is read

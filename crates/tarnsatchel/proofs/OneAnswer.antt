@@ -1,5 +1,5 @@
 -- The contracts of the functions for C leave no freedom: two results that one allows for one input are equal, in the number returned, in every lent buffer
--- and in the out parameter, refusals too.
+-- and in the out parameters, refusals too.
 use mathlib.Core.List.{List}
 use mathlib.Core.Path.{_∙_, _≡_, ap, sym}
 use Prim.Native.Nat.{ℕ}

@@ -8,7 +8,7 @@ use lib.Dec.{leb}
 use lib.ListN.{length}
 use Rattle.paper.specs.Image.{imageBytes, imageRecords, imageTree}
 use Rattle.paper.specs.Refusals.{No, Test, build, madeFrom, no, numberIn, queryPart, refused, treeIn, treePart, workFor, treeEnd}
-use Rattle.paper.specs.Stream.{behind, queryRecords, recordsOf, treeRecords}
+use Rattle.paper.specs.Stream.{queryRecords, recordsOf, treeRecords}
 use Rattle.paper.specs.Tree.{lastOf, treeOf}
 use Rattle.paper.specs.WrittenTree.{Allowed, WrittenTree, forestOf}
 use Rattle.laws.proofs.AtEach.{ThreeOrFour, query-says}

@@ -45,8 +45,10 @@ same-length c = search needs
 returns : tie.Need-returns
 returns c =
     let position = c .before .before .before .before .before .before .before .before in
-    let a = c .before .before .before .before .before .before .before .before .before .before .before .before .before .before .before .before .before .before .before .before .args in
-    put-at (noOfStream (a .why)) _ (c .before .before .before .before .before .before .before .before .before .before .before .before .number .ensures) (0, a .text .now) (position .before .before .before .before .before .before .before .before .put-word .ensures) (position .before .before .before .put-number .ensures) _
+    let number = position .before .before .before in
+    let word = number .before .before .before .before .before in
+    let a = word .before .before .before .before .args in
+    put-at (noOfStream (a .why)) _ (number .before .number .ensures) (0, a .text .now) (word .put-word .ensures) (number .put-number .ensures) _
     (ap saysPosition (sym (c .before .before .before .before .before .before .at .given .1)) ∙ position .position .ensures) (c .before .before .put-fact .ensures)
 
 same-length-2 : tie.Need-same-length-2
@@ -55,8 +57,10 @@ same-length-2 c = search needs
 returns-2 : tie.Need-returns-2
 returns-2 c =
     let position = c .before .before .before .before .before .before in
-    let a = c .before .before .before .before .before .before .before .before .before .before .before .before .before .before .before .before .before .before .args in
-    put-alone (noOfStream (a .why)) _ (c .before .before .before .before .before .before .before .before .before .before .number .ensures) (0, a .text .now) (position .before .before .before .before .before .before .before .before .put-word .ensures) (position .before .before .before .put-number .ensures)
+    let number = position .before .before .before in
+    let word = number .before .before .before .before .before in
+    let a = word .before .before .before .before .args in
+    put-alone (noOfStream (a .why)) _ (number .before .number .ensures) (0, a .text .now) (word .put-word .ensures) (number .put-number .ensures)
     (ap saysPosition (sym (c .before .before .before .before .enum-told .given .1)) ∙ position .position .ensures) (c .before .before .put-byte .ensures)
 
 pub put-refusal-spec : {M : Type 1} → statement M
