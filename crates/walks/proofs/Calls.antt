@@ -10,13 +10,13 @@ use base.Logic.{id⊢}
 use prog.Wp.{Heap, Env, Calls, Loops}
 use ghost.Atoms.{Atoms}
 use sound.WpLaws.{FmC}
-use types.Kit.{Given, Item, ‵, raw, _⊛_, some, later, Go, !, Goal, Soaks, Post, runs, lands, settles, Sq, _$_, move, use1, split, pick, await}
+use types.Kit.{Given, Item, ‵, raw, _⊛_, some, later, Go, !, Goal, Soaks, Post, runs, lands, Sq, _$_, move, use1, split, pick, await}
 use types.Run.{Opds}
 use denote.RattleType.{RattleType}
 use denote.Laws.{Is, Tells, shows}
 use denote.Signature.{typeAt}
 use denote.Steps.{only, facts}
-use denote.Triple.Call.{calls-at, calls-at-last}
+use denote.Triple.Call.{calls-at}
 use denote.Triple.Clauses.{Clauses, Ended, Lasts, lasts, atExit, closing}
 use denote.Triple.Entry.{alive}
 use denote.Triple.Spec.{tripleOf}
@@ -61,14 +61,3 @@ module _ {M : Type 1} {𝓤 : URA M} {H : Heap 𝓤} {A : Atoms 𝓤} {W : Given
       → Sq W (raw (contract 𝓤 H A F c .pre y) ∷ Γ) (runs C Λ E (seq (call f xs d) rest) p)
   calls {rest} t fm F c known y val tells os k =
       calls-at ! fm (contract 𝓤 H A F c) known y os (returned 𝓤 H A F c y W val tells (λ v. lands C Λ E d v rest p) (λ v. tt) k)
-
-  -- as the last statement of a turn or of an arm
-  pub calls-last : Go {0} → FmC 𝓤 H (W .laws) C → (F : Ended) (c : Clauses 𝓤 F) → Triple 𝓤 (C f) (contract 𝓤 H A F c)
-      → (y : contract 𝓤 H A F c .Ghost)
-      → (val : Result 𝓤 H A F c y .Denot → Val) → Tells (Result 𝓤 H A F c y) (Is (Result 𝓤 H A F c y)) (λ r. val r ∷ [])
-      → Opds (Go {0}) W (raw (contract 𝓤 H A F c .pre y) ∷ Γ) E xs (contract 𝓤 H A F c .args y)
-      → ((r : Result 𝓤 H A F c y .Denot) (us : Lasts F (y .0 .0) (y .0 .3)) → Is (Result 𝓤 H A F c y) r (val r ∷ [])
-      → Sq W (Returned 𝓤 H A F c y r us Γ) (settles E d (val r) p))
-      → Sq W (raw (contract 𝓤 H A F c .pre y) ∷ Γ) (runs C Λ E (call f xs d) p)
-  calls-last t fm F c known y val tells os k =
-      calls-at-last ! fm (contract 𝓤 H A F c) known y os (returned 𝓤 H A F c y W val tells (λ v. settles E d v p) (λ v. tt) k)

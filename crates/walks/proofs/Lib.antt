@@ -7,10 +7,14 @@ pub mod Calls
 pub mod Lending
 pub mod Entries
 pub mod Arrays
-pub mod States
 pub mod Values
+pub mod States
+pub mod Arguments
+pub mod Lines
+pub mod Functions
+pub mod Turning
+pub mod Reading
 pub mod Asking
 pub mod Storing
 pub mod Building
 pub mod Copying
-pub mod Outputs

@@ -101,14 +101,14 @@ module _ {M : Type 1} (𝓤 : URA M) (H : Heap 𝓤) (A : Atoms 𝓤) (W : Given
   float-out (e ∷ E) (k ∷ ks) i Γ =
       past-out (‵ (cell (e .0) (e .1) k)) (‵ (fdies (e .0) (e .1))) i (locals E ks (i ∷ Γ)) (locals E ks Γ) (float-out E ks i Γ)
 
-  float-in : (E : List (Ty × ℕ)) (ks : List Hold) (i : Item 𝓤) (Γ : List (Item 𝓤)) → ent 𝓤 (St (i ∷ locals E ks Γ)) (St (locals E ks (i ∷ Γ)))
+  pub float-in : (E : List (Ty × ℕ)) (ks : List Hold) (i : Item 𝓤) (Γ : List (Item 𝓤)) → ent 𝓤 (St (i ∷ locals E ks Γ)) (St (locals E ks (i ∷ Γ)))
   float-in [] ks i Γ = id⊢ 𝓤 (St (i ∷ Γ))
   float-in (e ∷ E) [] i Γ = past-in (‵ (froom (e .0) (e .1) 0)) (‵ (fdies (e .0) (e .1))) i (locals E [] (i ∷ Γ)) (locals E [] Γ) (float-in E [] i Γ)
   float-in (e ∷ E) (k ∷ ks) i Γ =
       past-in (‵ (cell (e .0) (e .1) k)) (‵ (fdies (e .0) (e .1))) i (locals E ks (i ∷ Γ)) (locals E ks Γ) (float-in E ks i Γ)
 
   -- two entries at once
-  both-out : (E : List (Ty × ℕ)) (ks : List Hold) (i j : Item 𝓤) (Γ : List (Item 𝓤))
+  pub both-out : (E : List (Ty × ℕ)) (ks : List Hold) (i j : Item 𝓤) (Γ : List (Item 𝓤))
       → ent 𝓤 (St (locals E ks (i ∷ j ∷ Γ))) (St (i ∷ j ∷ locals E ks Γ))
   both-out E ks i j Γ =
       via 𝓤 (St (i ∷ locals E ks (j ∷ Γ))) (float-out E ks i (j ∷ Γ))

@@ -3,7 +3,7 @@
 pub use Prim.Native.Nat.{ℕ, _<_, _*_, _^_, _≤_, _+_, _-_}
 pub use base.Fml.{Lft, GName, Share, ftrue, flft, Fml, fobor, froom}
 pub use base.Logic.{SProp, ent, sep, emp, id⊢, via, fst∗}
-pub use contract.Monad.{Fun, fact}
+pub use contract.Monad.{Fun, fact, factI}
 pub use contract.Running.{givenOf, tables}
 unfoldable pub use contract.Running.{tablesOf}
 pub use denote.Builtin.{usize, u64, u16, u8}
