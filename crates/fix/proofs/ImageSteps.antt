@@ -1,6 +1,7 @@
 -- The images of the first k records of a source, record by record. First what making an image adds to the new table; then one record more,
--- that earlier images stay, and that each is at hand: empty, unit or a record of the new table. Last, how many records are new.
-use mathlib.Core.Bool.{Bool, _&&_, cond, false, not, true}
+-- that earlier images stay, and that each is at hand: empty, unit or a record of the new table. Then how many records are new; last a union of
+-- unit and unit.
+use mathlib.Core.Bool.{Bool, _&&_, _||_, cond, false, false≢true, not, or-assoc, or-comm, true}
 use mathlib.Core.List.{List, [], _∷_, _++_}
 use mathlib.Core.Logic.{⊎-elim}
 use mathlib.Core.Path.{_∙_, _≡_, ap, refl, subst, sym}
@@ -10,10 +11,10 @@ use lib.Dec.{eqb}
 use lib.ListN.{List·getD-append, getD, length, length-append, take}
 use lib.Seq.{getD-at}
 use Rattle.paper.specs.Building.{newRecord, productRecord, singleRecord, unionRecord}
-use Rattle.paper.specs.Questions.{hasPlace, image, imageStep, imagesOf, without}
+use Rattle.paper.specs.Questions.{hasPlace, image, imageStep, imagesOf, isUnit, unitTwice, without}
 use Rattle.paper.specs.Records.{blankEntry, productOf, singleOf, unionOf}
 use Rattle.paper.specs.Sound.{entry}
-use Rattle.laws.proofs.Lists.{through-take}
+use Rattle.laws.proofs.Lists.{or-cases, or-left, or-right, through-take}
 use Rattle.laws.proofs.Shaped.{last-or}
 use Rattle.fix.specs.Sets.{Record, Set, at, empty, setNumber, unit}
 
@@ -103,7 +104,7 @@ module _ (i n : ℕ) (source : List Record) where
     pub records-next : made (suc k) ≡ (imageAfter k) .0
     records-next = ap (λ (z : List Record × List Set). z .0) one-step
 
-    pub images-next : images (suc k) ≡ images k ++ ((imageAfter k) .1 ∷ [])
+    images-next : images (suc k) ≡ images k ++ ((imageAfter k) .1 ∷ [])
     images-next = ap (λ (z : List Record × List Set). z .1) one-step
 
   length-images : (k : ℕ) → k ≤ length source → length (images k) ≡ k
@@ -164,3 +165,25 @@ module _ (i n : ℕ) (source : List Record) where
     where
       step : Adds (made k) (imageAfter k)
       step = adds-image (made k) i n (images k) (entry source k) (at-hand k (omega arith))
+
+-- ---- a union of unit and unit among the first k records
+module _ (images : List Set) where
+  abbrev pub twiceAt : Record → Bool
+  twiceAt r = eqb (r .kind) 2 && (isUnit (getD images (r .left) empty) && isUnit (getD images (r .right) empty))
+
+  pub twice-next : (source : List Record) (k : ℕ) → k < length source
+      → unitTwice images (take (suc k) source) ≡ unitTwice images (take k source) || twiceAt (entry source k)
+  twice-next [] k l = absurd (omega arith)
+  twice-next (r ∷ rs) zero l = or-comm (twiceAt r) false
+  twice-next (r ∷ rs) (suc k) l =
+      ap (λ (c : Bool). twiceAt r || c) (twice-next rs k (omega arith))
+      ∙ sym (or-assoc (twiceAt r) (unitTwice images (take k rs)) (twiceAt (entry rs k)))
+
+  pub twice-stays : (source : List Record) (m k : ℕ) → k ≤ m → unitTwice images (take k source) ≡ true → unitTwice images (take m source) ≡ true
+  twice-stays source m zero l e = absurd (false≢true e)
+  twice-stays source zero (suc k) l e = absurd (omega arith)
+  twice-stays [] (suc m) (suc k) l e = e
+  twice-stays (r ∷ rs) (suc m) (suc k) l e =
+      let later : Bool = unitTwice images (take m rs) in
+      ⊎-elim (or-left (twiceAt r) later) (λ f. or-right (twiceAt r) later (twice-stays rs m k (omega arith) f))
+      (or-cases (twiceAt r) (unitTwice images (take k rs)) e)

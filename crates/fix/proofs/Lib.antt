@@ -1,7 +1,5 @@
 pub mod Making
 pub mod Turning
-pub mod Beginning
-pub mod Finishing
 pub mod ImageSteps
 pub mod OneRecord
 pub mod Behind

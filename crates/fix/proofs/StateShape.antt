@@ -1,22 +1,12 @@
 -- The struct `State`, as the laws of `walks` take a state: its field `going`, which record comes next, and where the batch goes and how
 -- many records it has.
 use mathlib.Core.Path.{refl}
-use Rattle.walks.proofs.States.{Shape, Field}
+use Rattle.walks.proofs.States.{Field, Shape, shape-of}
 use Rattle.fix.proofs.state.State as S
 use Rattle.fix.proofs.state.State.Laws as S′
 
 abbrev pub shape : Shape
-shape = record {
-  type = S.the-type;
-  laws = S′.the-laws;
-  plains = S′.the-plain;
-  copies = S′.the-copy;
-  number = 9;
-  place = 46;
-  going = λ s. s .going;
-  there = refl;
-  is = λ s. refl;
-}
+shape = shape-of S.the-type S′.the-laws S′.the-plain S′.the-copy 8 45 (λ s. s .going) refl (λ s. refl)
 
 abbrev pub at-field : Field shape
 at-field = record { number = 0; place = 0; value = λ s. s .at; there = refl; is = λ s. refl }

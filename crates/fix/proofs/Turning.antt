@@ -1,6 +1,6 @@
 -- One turn of each pass. First what its calls ask for; then a turn that skips its record; then, from the numbers of the operands, one that
 -- stops, and one that goes on. Last a record as five numbers.
-use mathlib.Core.Bool.{Bool, _&&_, cond, false, true, true≢false}
+use mathlib.Core.Bool.{Bool, _&&_, and-assoc, and-comm, cond, false, true, true≢false}
 use mathlib.Core.List.{List, [], _∷_}
 use mathlib.Core.Path.{_∙_, _≡_, refl, sym}
 use Prim.Native.Nat.{_+_, _-_, _<_, _≤_, suc, zero, ℕ}
@@ -59,7 +59,9 @@ module _ (t : State) (r : Record) (work : List ℕ) (left right : ℕ) (left-is 
   tested = eqb left 1 && (eqb right 1 && eqb (r .kind) 2)
 
   tested-is : twiceIn r work ≡ tested
-  tested-is = rw (← left-is, ← right-is, unit-number left, unit-number right)
+  tested-is =
+      rw (← left-is, ← right-is, unit-number left, unit-number right)
+      (and-comm (eqb (r .kind) 2) (eqb left 1 && eqb right 1) ∙ and-assoc (eqb left 1) (eqb right 1) (eqb (r .kind) 2))
 
   makes-at : (made : ℕ) (x : Image) → Makes (imageWith (t .place - 1) (t .node) r (setIn left) (setIn right)) made x → Makes (imageAt t r work) made x
   makes-at made x m = rw (← left-is, ← right-is) m

@@ -1,14 +1,15 @@
 -- The end of a fix: what `finish` asks for, its answer, and the cleared work.
-use mathlib.Core.Bool.{false, cond}
 use mathlib.Core.List.{List}
 use mathlib.Core.Path.{_≡_}
 use Prim.Native.Nat.{ℕ, _-_, _≤_, _<_}
-use lib.ListN.{length, getD, replicate}
+use lib.ListN.{length, getD}
 use Rattle.paper.specs.declared.Fixed.{Fixed}
-use Rattle.paper.specs.declared.Fixed.the-variants as FixedIs
 use Rattle.paper.specs.declared.Head.{Head}
+use Rattle.paper.specs.Answers.{saysFixed}
 use Rattle.paper.specs.Questions.{without}
-use Rattle.paper.specs.Refusals.{over}
+use Rattle.sound.specs.Verdicts.{cleared, replyOf}
+use Rattle.sound.specs.declared.verdict.Ruling.the-variants as RulingIs
+use Rattle.sound.specs.declared.verdict.Verdict.{Verdict}
 use Rattle.fix.specs.Sets.{Set, at, setAfter}
 use Rattle.fix.specs.States.{State}
 
@@ -22,9 +23,8 @@ pub record Fitted (t : State) (h : Head) (work : List ℕ) : Type 0 where
   pub made : t .made ≤ 60000
   pub image : ImageIn work (h .set)
 
-pub record MayFinish (t : State) (h : Head) (work : List ℕ) : Type 0 where
-  pub room : t .used ≤ length work
-  pub fitted : t .refused ≡ false → Fitted t h work
+abbrev pub MayFinish : State → Verdict → Head → List ℕ → Type 0
+MayFinish t v h work = v .ruling ≡ RulingIs.Answer → Fitted t h work
 
 -- the new head
 abbrev pub headAfter : State → Head → List ℕ → Head
@@ -36,9 +36,6 @@ headAfter t h work = record {
   set = setAfter work (h .set);
 }
 
-abbrev pub answerAfter : State → Head → List ℕ → Fixed
-answerAfter t h work = cond (t .refused) (FixedIs.Refused (t .refusal)) (FixedIs.Set (headAfter t h work))
-
-pub record Finishes (t : State) (h : Head) (work : List ℕ) (r : Fixed) (work′ : List ℕ) : Type 0 where
-  pub answer : r ≡ answerAfter t h work
-  pub cleared : work′ ≡ over (replicate (t .used) 0) work
+pub record Finishes (t : State) (v : Verdict) (h : Head) (work : List ℕ) (r : Fixed) (work′ : List ℕ) : Type 0 where
+  pub answer : saysFixed r ≡ replyOf (v .ruling) (headAfter t h work)
+  pub worked : work′ ≡ cleared (v .clear) work

@@ -1,20 +1,35 @@
--- The beginning of a fix, by what `weigh` has answered and the tests 7, 8 and 6.
-use mathlib.Core.Bool.{cond}
+-- The verdicts of a fix: its tests before the images, and the one after them.
+use mathlib.Core.Bool.{Bool, not}
+use mathlib.Core.List.{List, [], _∷_}
 use Prim.Native.Nat.{ℕ}
 use lib.Dec.{leb, ltb}
 use Rattle.paper.specs.declared.Head.{Head}
-use Rattle.paper.specs.declared.Refusal.the-variants.{Place, Node, ShortTable}
+use Rattle.paper.specs.declared.Refusal.the-variants.{Place, Node, ShortTable, UnitTwice}
 use Rattle.paper.specs.Refusals.{isOpen}
-use Rattle.sound.specs.declared.Weighed.{Weighed}
-use Rattle.sound.specs.declared.Weighed.the-variants as WeighedIs
-use Rattle.fix.specs.States.{State, started, refusedBy}
+use Rattle.sound.specs.Verdicts.{OwnTest, rulingOf}
+use Rattle.sound.specs.declared.verdict.Ruling.{Ruling}
+use Rattle.sound.specs.declared.verdict.Ruling.the-variants as RulingIs
+use Rattle.sound.specs.declared.verdict.Verdict.{Verdict}
 
--- refused by `weigh`, or with 7, 8 or 6, or before the first record
-abbrev pub begun : Weighed → Head → ℕ → ℕ → ℕ → State
-begun WeighedIs.Sound h place node entries =
-    cond (isOpen h place)
-    (cond (ltb node (h .nodes))
-    (cond (leb (h .used) entries) (started (h .used) place node) (refusedBy (h .used) ShortTable))
-    (refusedBy (h .used) Node))
-    (refusedBy (h .used) Place)
-begun (WeighedIs.Refused why) h place node entries = refusedBy 0 why
+-- 7, 8 and 6
+abbrev pub testsBefore : Head → ℕ → ℕ → ℕ → List OwnTest
+testsBefore h place node entries = (Place, isOpen h place) ∷ (Node, ltb node (h .nodes)) ∷ (ShortTable, leb (h .used) entries) ∷ []
+
+-- 12, which counts where the tests before it hold
+abbrev pub behind : Ruling → Ruling → Ruling
+behind RulingIs.Answer second = second
+behind (RulingIs.Refused why) second = RulingIs.Refused why
+
+abbrev pub testAfter : Bool → Ruling
+testAfter twice = rulingOf ((UnitTwice, not twice) ∷ [])
+
+abbrev pub afterImages : Verdict → Bool → Verdict
+afterImages v twice = record { ruling = behind (v .ruling) (testAfter twice); clear = v .clear }
+
+-- how many records a pass has: none where the fix is refused
+abbrev pub ifAnswered : Ruling → ℕ → ℕ
+ifAnswered RulingIs.Answer n = n
+ifAnswered (RulingIs.Refused why) n = 0
+
+abbrev pub recordsOf : Verdict → ℕ
+recordsOf v = ifAnswered (v .ruling) (v .clear)

@@ -1,9 +1,7 @@
--- What becomes of a state: before the first record, refused at once, after a record, stopped, and before the second pass.
-use mathlib.Core.Bool.{true, false, cond}
+-- What becomes of a state: before the first record, after a record, and stopped at one.
+use mathlib.Core.Bool.{true, false}
 use Prim.Native.Nat.{ℕ, _+_}
 use lib.Dec.{ltb}
-use Rattle.paper.specs.declared.Refusal.{Refusal}
-use Rattle.paper.specs.declared.Refusal.the-variants.{UnitTwice}
 pub use Rattle.fix.specs.declared.state.State.{State}
 
 abbrev pub started : ℕ → ℕ → ℕ → State
@@ -15,23 +13,8 @@ started used place node = record {
   count = 0;
   place = place;
   node = node;
-  refusal = UnitTwice;
-  refused = false;
+  twice = false;
   going = ltb 0 used;
-}
-
-abbrev pub refusedBy : ℕ → Refusal → State
-refusedBy used why = record {
-  at = 0;
-  used = used;
-  made = 0;
-  from = 0;
-  count = 0;
-  place = 0;
-  node = 0;
-  refusal = why;
-  refused = true;
-  going = false;
 }
 
 -- at the next record, with so many new ones more
@@ -44,8 +27,7 @@ passed t count = record {
   count = count;
   place = t .place;
   node = t .node;
-  refusal = t .refusal;
-  refused = t .refused;
+  twice = t .twice;
   going = ltb (t .at + 1) (t .used);
 }
 
@@ -58,10 +40,6 @@ stopped t = record {
   count = t .count;
   place = t .place;
   node = t .node;
-  refusal = t .refusal;
-  refused = true;
+  twice = true;
   going = false;
 }
-
-abbrev pub restarted : State → State
-restarted t = cond (t .refused) t (started (t .used) (t .place) (t .node))

@@ -32,9 +32,9 @@ rightIn r work = setIn (operandIn work (r .kind) (r .right))
 abbrev pub imageAt : State → Record → List ℕ → List Record → List Record × Set
 imageAt t r work = imageWith (t .place - 1) (t .node) r (leftIn r work) (rightIn r work)
 
--- both its operands have become unit, and it is a union
+-- it is a union, and both its operands have become unit
 abbrev pub twiceIn : Record → List ℕ → Bool
-twiceIn r work = isUnit (leftIn r work) && (isUnit (rightIn r work) && eqb (r .kind) 2)
+twiceIn r work = eqb (r .kind) 2 && (isUnit (leftIn r work) && isUnit (rightIn r work))
 
 -- the first pass stops there; else the image stands in the work
 pub record Goes (t : State) (r : Record) (work : List ℕ) (s : State) (work′ : List ℕ) : Type 0 where

@@ -1,12 +1,15 @@
-// The end of a fix: what the set of the head has become, the answer, and the cleared work.
+// The end of a fix, by its verdict: the new set or the refusal, and the cleared work.
 ghost use mathlib.Core.Path.{_≡_};
-ghost use Rattle.fix.specs.Answer.{ImageIn, MayFinish, answerAfter, Finishes};
+ghost use Rattle.fix.specs.Answer.{Fitted, ImageIn, MayFinish, headAfter, Finishes};
 ghost use Rattle.fix.specs.Sets.{setAfter};
 use crate::state::State;
 use paper::Fixed;
 use paper::Head;
 use paper::Set;
 use places::without_place;
+use sound::Ruling;
+use sound::Verdict;
+use sound::clear;
 use table::set_of;
 
 // What the set of the head becomes: the image of its root. Empty stays what it is, and so would unit,
@@ -23,34 +26,40 @@ fn new_set(set: Set, work: &[u64]) -> Set
     }
 }
 
-// The new set, or the refusal. Nodes and arity stay; the place leaves the open places, and the others
-// keep their numbers.
-fn answer(t: State, head: Head, work: &[u64]) -> Fixed
-    requires { ⌜ MayFinish t head (now work) ⌝ }
-    ensures { λ r. ⌜ r ≡ answerAfter t head (now (work .entry)) ⌝ }
+// The head of the new set. Nodes and arity stay; the place leaves the open places, and the others keep
+// their numbers.
+fn new_head(t: State, head: Head, work: &[u64]) -> Head
+    requires { ⌜ Fitted t head (now work) ⌝ }
+    ensures { λ r. ⌜ r ≡ headAfter t head (now (work .entry)) ⌝ }
 {
-    if t.refused {
-        let why = t.refusal;
-        return Fixed::Refused(why);
-    }
     let old = head.set;
     let set = new_set(old, work);
     let open_places = without_place(head.open_places, (t.place - 1) as usize);
-    Fixed::Set(Head {
+    Head {
         nodes: head.nodes,
         arity: head.arity,
         open_places: open_places,
         used: t.made as u16,
         set: set,
-    })
+    }
 }
 
 // The answer; and the work is cleared, after the root's image has been read from it.
-pub(crate) fn finish(t: State, head: Head, work: &mut [u64]) -> Fixed
-    requires { ⌜ MayFinish t head (now work) ⌝ }
-    ensures { λ r. ⌜ Finishes t head (now (work .entry)) r (now (work .exit)) ⌝ }
+pub(crate) fn finish(t: State, v: Verdict, head: Head, work: &mut [u64]) -> Fixed
+    requires { ⌜ MayFinish t v head (now work) ⌝ }
+    ensures { λ r. ⌜ Finishes t v head (now (work .entry)) r (now (work .exit)) ⌝ }
 {
-    let fixed = answer(t, head, &*work);
-    sound::clear(&mut *work, t.used);
-    fixed
+    let ruling = v.ruling;
+    let numbers = v.clear;
+    match ruling {
+        Ruling::Refused(why) => {
+            clear(&mut *work, numbers);
+            Fixed::Refused(why)
+        }
+        Ruling::Answer => {
+            let new = new_head(t, head, &*work);
+            clear(&mut *work, numbers);
+            Fixed::Set(new)
+        }
+    }
 }

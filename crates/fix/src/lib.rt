@@ -2,10 +2,11 @@
 // what each becomes, and then the new records. Both go upwards: operands have lower numbers, and the
 // new records keep the old order.
 ghost use Rattle.fix.specs.Face.{Fixes};
-ghost use Rattle.fix.specs.Passes.{MayImage, ImagesDone, MayRecord, RecordsDone};
+ghost use Rattle.fix.specs.Passes.{Ready, ImagesDone, MayRecord, RecordsDone};
 use crate::answer::finish;
-use crate::start::again;
 use crate::start::begin;
+use crate::start::judge;
+use crate::start::judge_images;
 use crate::state::State;
 use crate::turn::image_turn;
 use crate::turn::record_turn;
@@ -34,20 +35,22 @@ pub fn fix(
 {
     let w = sound::weigh(head, source, &mut *work);
     let entries = target.len();
-    let s = begin(w, head, place, node, entries);
+    let v = judge(w, head, place, node, entries);
+    let s = begin(v, place, node);
     let t = images(source, s, &mut *work);
-    let second = again(t);
+    let u = judge_images(v, t);
+    let second = begin(u, place, node);
     // Room for the one record of a turn.
     let mut batch: [u16; RECORD_NUMBERS] = [0; RECORD_NUMBERS];
     let e = records(source, second, &mut *work, &mut *target, &mut batch);
-    finish(e, head, &mut *work)
+    finish(e, u, head, &mut *work)
 }
 
 // The first pass: the image of each record of the source, in the work, where it takes the place of the
 // weight. It ends behind the last used record, to which `at` rises by 1 a turn, or at a union of unit
 // and unit.
 fn images(source: &[Record], s: State, work: &mut [u64]) -> State
-    requires { ⌜ MayImage (now source) s (now work) ⌝ }
+    requires { ⌜ Ready (now source) s (now work) ⌝ }
     ensures { λ r. ⌜ ImagesDone (now (source .entry)) s (now (work .entry)) r (now (work .exit)) ⌝ }
 {
     let mut t = s;
@@ -60,8 +63,8 @@ fn images(source: &[Record], s: State, work: &mut [u64]) -> State
 }
 
 // The second pass: the new records, in the target. It ends behind the last used record, to which `at`
-// rises by 1 a turn; where the first pass was refused it makes no turn. A record goes into the target
-// as numbers, by way of `batch`: only `table` writes structs into a lent table.
+// rises by 1 a turn. A record goes into the target as numbers, by way of `batch`: only `table` writes
+// structs into a lent table.
 fn records(
     source: &[Record],
     s: State,

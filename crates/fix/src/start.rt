@@ -1,19 +1,80 @@
-// The beginning of a fix and of its second pass: the state before the first record, and the refusals
-// that can be told before the images.
+// The verdicts of a fix, before its first pass and after it, and the state that either pass begins
+// with.
 ghost use mathlib.Core.Path.{_≡_};
-ghost use Rattle.fix.specs.States.{started, refusedBy, restarted};
-ghost use Rattle.fix.specs.Start.{begun};
+ghost use Rattle.sound.specs.Verdicts.{rulingOf, verdictOf};
+ghost use Rattle.fix.specs.Start.{afterImages, recordsOf, testsBefore};
+ghost use Rattle.fix.specs.States.{started};
 use crate::state::State;
 use paper::Head;
 use paper::Refusal;
 use places::is_open;
+use sound::Ruling;
+use sound::Verdict;
 use sound::Weighed;
+use sound::rule;
 
-// Before the first record. Only a union of unit and unit can still refuse, so that refusal is set down
-// here.
-fn start(used: usize, place: u16, node: u16) -> State
-    ensures { λ r. ⌜ r ≡ started used place node ⌝ }
+// The tests 7, 8 and 6, as the paper orders them.
+fn tests(head: Head, place: u16, node: u16, entries: usize) -> Ruling
+    ensures { λ r. ⌜ r ≡ rulingOf (testsBefore head place node entries) ⌝ }
 {
+    if !is_open(head, place) {
+        return Ruling::Refused(Refusal::Place);
+    }
+    if head.nodes <= node {
+        return Ruling::Refused(Refusal::Node);
+    }
+    // The paper wants an entry for each record of the source, however few will be made.
+    let used = head.used as usize;
+    if entries < used {
+        return Ruling::Refused(Refusal::ShortTable);
+    }
+    Ruling::Answer
+}
+
+// What can be told before the images: 5 and 11 by what `weigh` said, then the tests.
+pub(crate) fn judge(w: Weighed, head: Head, place: u16, node: u16, entries: usize) -> Verdict
+    ensures { λ v. ⌜ v ≡ verdictOf w (rulingOf (testsBefore head place node entries)) (head .used) ⌝ }
+{
+    let own = tests(head, place, node, entries);
+    rule(w, own, head.used)
+}
+
+// What can be told after them: 12, where the first pass has stopped at a union of unit and unit.
+pub(crate) fn judge_images(v: Verdict, t: State) -> Verdict
+    ensures { λ u. ⌜ u ≡ afterImages v (t .twice) ⌝ }
+{
+    let ruling = v.ruling;
+    match ruling {
+        Ruling::Refused(_) => v,
+        Ruling::Answer => {
+            if t.twice {
+                return Verdict {
+                    ruling: Ruling::Refused(Refusal::UnitTwice),
+                    clear: v.clear,
+                };
+            }
+            v
+        }
+    }
+}
+
+// How many records a pass has: all that are used, each with a number to be cleared; none where the fix
+// is refused.
+fn records_of(v: Verdict) -> usize
+    ensures { λ r. ⌜ r ≡ recordsOf v ⌝ }
+{
+    let ruling = v.ruling;
+    match ruling {
+        Ruling::Refused(_) => 0,
+        Ruling::Answer => v.clear,
+    }
+}
+
+// Before the first record. Both passes begin so.
+pub(crate) fn begin(v: Verdict, place: u16, node: u16) -> State
+    ensures { λ r. ⌜ r ≡ started (recordsOf v) place node ⌝ }
+{
+    let used = records_of(v);
     State {
         at: 0,
         used: used,
@@ -22,61 +83,7 @@ fn start(used: usize, place: u16, node: u16) -> State
         count: 0,
         place: place,
         node: node,
-        refusal: Refusal::UnitTwice,
-        refused: false,
+        twice: false,
         going: 0 < used,
     }
-}
-
-// No pass at all: the place and the node are not looked at. `used` numbers of the work are still to be
-// cleared.
-fn refuse(used: usize, why: Refusal) -> State
-    ensures { λ r. ⌜ r ≡ refusedBy used why ⌝ }
-{
-    State {
-        at: 0,
-        used: used,
-        made: 0,
-        from: 0,
-        count: 0,
-        place: 0,
-        node: 0,
-        refusal: why,
-        refused: true,
-        going: false,
-    }
-}
-
-// What can be told before the images: 5 and 11 by what `weigh` said, then 7, 8 and 6, as the paper
-// orders them. Where `weigh` refused, it has left the work as it is to be.
-pub(crate) fn begin(w: Weighed, head: Head, place: u16, node: u16, entries: usize) -> State
-    ensures { λ r. ⌜ r ≡ begun w head place node entries ⌝ }
-{
-    match w {
-        Weighed::Refused(why) => refuse(0, why),
-        Weighed::Sound => {
-            let used = head.used as usize;
-            if !is_open(head, place) {
-                return refuse(used, Refusal::Place);
-            }
-            if head.nodes <= node {
-                return refuse(used, Refusal::Node);
-            }
-            // The paper wants an entry for each record of the source, however few will be made.
-            if entries < used {
-                return refuse(used, Refusal::ShortTable);
-            }
-            start(used, place, node)
-        }
-    }
-}
-
-// The same records once more, unless it is refused: then the state stays as it is, and has no turn.
-pub(crate) fn again(t: State) -> State
-    ensures { λ r. ⌜ r ≡ restarted t ⌝ }
-{
-    if t.refused {
-        return t;
-    }
-    start(t.used, t.place, t.node)
 }

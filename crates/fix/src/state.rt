@@ -3,11 +3,10 @@
 ghost use mathlib.Core.Path.{_≡_};
 ghost use Prim.Native.Nat.{_+_, _≤_, _<_};
 ghost use Rattle.fix.specs.States.{stopped, passed};
-use paper::Refusal;
 
-// `at` is the number of the next record, `used` how many the source has, `made` how many the new table
+// `at` is the number of the next record, `used` how many the pass has, `made` how many the new table
 // has so far. The last turn made `count` of them, 0 or 1, which go into the table at `from`. The place
-// is fixed at the node. `refusal` is what it is refused with, if it is `refused`.
+// is fixed at the node. `twice` says that the pass has stopped at a union of unit and unit.
 pub(crate) struct State {
     pub(crate) at: usize,
     pub(crate) used: usize,
@@ -16,8 +15,7 @@ pub(crate) struct State {
     pub(crate) count: usize,
     pub(crate) place: u16,
     pub(crate) node: u16,
-    pub(crate) refusal: Refusal,
-    pub(crate) refused: bool,
+    pub(crate) twice: bool,
     pub(crate) going: bool,
 }
 
@@ -37,12 +35,12 @@ pub(crate) fn pass(t: State, count: usize) -> State
     next
 }
 
-// Refused at the present record, with the refusal that the state was begun with.
+// Stopped at the present record, a union of unit and unit.
 pub(crate) fn stop(t: State) -> State
     ensures { λ r. ⌜ r ≡ stopped t ⌝ }
 {
     let mut next = t;
-    next.refused = true;
+    next.twice = true;
     next.going = false;
     next
 }

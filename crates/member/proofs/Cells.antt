@@ -4,7 +4,7 @@ use mathlib.Core.Bool.{Bool, _&&_, _||_, false, true}
 use mathlib.Core.List.{List, [], _++_}
 use mathlib.Core.Logic.{⊎-elim}
 use mathlib.Core.Path.{_∙_, _≡_, ap, ap₂, refl, sym}
-use Prim.Native.Nat.{_<_, _^_, _≤_, ℕ}
+use Prim.Native.Nat.{_<_, _≤_, ℕ}
 use native.Mathlib.Omega.{arith}
 use lib.Dec.{eqb}
 use lib.ListN.{drop, getD, length, replicate, take}
@@ -83,29 +83,18 @@ module _ (k N : ℕ) (few : N ≤ 4095) (table : List Record) (sounds : (i : ℕ
       pub turn-lists : lists (padded row) work (entry table i) ≡ listedAt k table row i
       turn-lists = ⊎-elim single (⊎-elim union product) (sounds i there .kind)
         where
-          alone : Bool
-          alone = stands (r .node) (r .flag) (padded row)
-
-          left : Bool
-          left = eqb (getD work (r .left) 0) 1
-
-          right : Bool
-          right = eqb (getD work (r .right) 0) 1
-
           single : IsSingle r → lists (padded row) work r ≡ listed i
           single e =
-              kind-single (r .kind) alone (left || right) (left && right) (e .0)
-              ∙ stands-before (r .node) (r .flag) row (drop (length row) (replicate 4 blank)) in-row ∙ sym (single-listed e)
-            where
-              in-row : r .flag < 2 ^ length row
-              in-row = rw long (sounds i there .flag-below)
+              kind-single (r .kind) _ _ _ (e .0)
+              ∙ stands-before (r .node) (r .flag) row (drop (length row) (replicate 4 blank)) (rw long (sounds i there .flag-below))
+              ∙ sym (single-listed e)
 
           union : IsUnion table i r → lists (padded row) work r ≡ listed i
           union e =
-              kind-union (r .kind) alone (left || right) (left && right) (e .0)
+              kind-union (r .kind) _ _ _ (e .0)
               ∙ ap₂ (λ (a b : Bool). a || b) (one (r .left) (e .1)) (one (r .right) (e .2)) ∙ sym (union-listed e)
 
           product : IsProduct table i r → lists (padded row) work r ≡ listed i
           product e =
-              kind-product (r .kind) alone (left || right) (left && right) (e .0)
+              kind-product (r .kind) _ _ _ (e .0)
               ∙ ap₂ (λ (a b : Bool). a && b) (one (r .left) (e .1)) (one (r .right) (e .2)) ∙ sym (product-listed e)

@@ -1,171 +1,91 @@
--- From the four calls of `member` to its contract: what `begin` and `drive` ask is met, and what `finish` leaves is what the paper says.
--- First the work, then what `begin` and `drive` ask, then the answer of a sound set, then the whole.
-use mathlib.Core.Bool.{Bool, cond, false, false≢true, or-false, true}
-use mathlib.Core.List.{List, [], _∷_}
+-- From the calls of `member` to its contract, by the law of a question's face (`sound`): what `begin` and `drive` ask is met, and what `finish` leaves
+-- is what the paper says. First what a ruling to answer means, then how the pass begins, then what `drive` asks, then the whole.
+use mathlib.Core.Bool.{Bool, false, false≢true, or-false, true}
+use mathlib.Core.List.{List}
+use mathlib.Core.Logic.{_⊎_, inl, inr, ⊎-elim}
 use mathlib.Core.Path.{_∙_, _≡_, ap, refl, subst, sym}
-use Prim.Native.Nat.{ℕ}
+use Prim.Native.Nat.{_≤_, ℕ}
 use native.Mathlib.Omega.{arith}
-use borrow.Author.Tests.{eqb-true, le-leb}
-use lib.Dec.{eqb, leb}
-use lib.ListN.{drop, length, length-replicate, replicate}
-use lib.Seq.{drop-at}
+use borrow.Author.Tests.{eqb-true}
+use lib.ListN.{length, replicate}
 use Rattle.paper.specs.declared.Head.{Head}
 use Rattle.paper.specs.declared.Member.{Member}
-use Rattle.paper.specs.declared.Member.the-variants.{Listed, NotListed, Refused}
 use Rattle.paper.specs.declared.Record.{Record}
-use Rattle.paper.specs.declared.Refusal.{Refusal}
-use Rattle.paper.specs.declared.Refusal.the-variants.{Node, RowLength}
 use Rattle.paper.specs.declared.Set.{Set}
 use Rattle.paper.specs.declared.Set.the-variants.{Empty as empty, Record as at, Unit as unit}
-use Rattle.paper.specs.Answers.{saysMember}
 use Rattle.paper.specs.Lists.{same}
 use Rattle.paper.specs.Questions.{isListed}
-use Rattle.paper.specs.Records.{listing, listings, setRows, usedOf}
-use Rattle.paper.specs.Refusals.{Reply, Test, answer, entriesFit, member, refused, unless, workAfter, no}
+use Rattle.paper.specs.Records.{listings, setRows, usedOf}
 use Rattle.paper.specs.Row.{Row, blank}
-use Rattle.paper.specs.Sound.{sound}
-use Rattle.laws.specs.QuestionCauses.{SetFits, Sound}
+use Rattle.laws.specs.QuestionCauses.{SetFits}
 use Rattle.laws.proofs.Lists.{same-refl}
 use Rattle.sound.specs.Face.{Weighs}
-use Rattle.sound.proofs.Answered.{refused-reply, refused-work, sound-behind, sound-reply, sound-room, sound-set}
-use Rattle.sound.proofs.Overwriting.{cleared-same}
+use Rattle.sound.specs.Verdicts.{rulingOf, verdictOf}
 use Rattle.sound.specs.declared.Weighed.{Weighed}
-use Rattle.sound.specs.declared.Weighed.the-variants as WeighedIs
+use Rattle.sound.specs.declared.Weighed.the-variants.{Sound}
+use Rattle.sound.specs.declared.verdict.Ruling.{Ruling}
+use Rattle.sound.specs.declared.verdict.Ruling.the-variants.{Answer, Refused}
+use Rattle.sound.specs.declared.verdict.Verdict.{Verdict}
+use Rattle.sound.proofs.Answered.{sound-room, sound-set}
+use Rattle.sound.proofs.Replying.{Holds, answered, leaves, replies}
+use Rattle.member.specs.Answer.{Finishes}
 use Rattle.member.specs.Driving.{Driven, Ready, Starts}
 use Rattle.member.specs.Face.{Members}
-use Rattle.member.specs.Pass.{State, answerOf, stopped}
-use Rattle.member.specs.Answer.{Finishes, cleared}
-use Rattle.member.specs.Start.{FewPlaces, begun, firstOf, startOf}
+use Rattle.member.specs.Pass.{State}
+use Rattle.member.specs.Start.{begun, rowTests}
 use Rattle.member.proofs.Restricted.{fits-restricted, restricted, restricted-none}
 
--- ---- the work
--- behind the numbers cleared the work is as it was
-drop-cleared : (n : ℕ) (work : List ℕ) → drop n (cleared n work) ≡ drop n work
-drop-cleared n work =
-    let long : length {A = ℕ} (replicate n 0) ≡ n = length-replicate n 0 in
-    drop-at (replicate n 0) (drop (length {A = ℕ} (replicate n 0)) work) n long ∙ ap (λ (m : ℕ). drop m work) long
-
-module _ (h : Head) (table : List Record) (work : List ℕ) (row : Row) where
-  -- the tests of the row, behind those of every question
-  abbrev rowTests : List Test
-  rowTests = (no 13, eqb (length row) (h .arity)) ∷ (no 8, entriesFit h 0 row) ∷ []
-
-  abbrev listed : Bool
-  listed = isListed (listing h table) row
-
-  -- ---- what the calls ask
-  -- `begin` asks for few places
-  pub few-places : (w : Weighed) (work′ : List ℕ) → Weighs h table work w work′ → FewPlaces w h
-  few-places WeighedIs.Sound work′ e = sound-set e refl .few-places
-  few-places (WeighedIs.Refused r) work′ e = tt
-
-  -- where a row fits, the pass stands before the first record of a set that has a root
-  starts : Sound h table → length row ≡ h .arity → entriesFit h 0 row ≡ true → (i : ℕ) → h .set ≡ at i → Starts h table row (firstOf (at i) row)
-  starts good l f i is = record { sound = good; long = l; fits = f; root = is; first = refl; shown = refl; going = refl }
-
-  -- `drive` asks for a set and a row, where the pass goes on
-  pub ready : (w : Weighed) (work′ : List ℕ) → Weighs h table work w work′ → length work′ ≡ length work → Ready table (begun w h row) work′
-  ready (WeighedIs.Refused r) work′ e long = λ going. absurd (false≢true going)
-  ready WeighedIs.Sound work′ e long = tested (eqb (length row) (h .arity)) refl (entriesFit h 0 row) refl
-    where
-      first : length row ≡ h .arity → entriesFit h 0 row ≡ true → (s : Set) → h .set ≡ s → Ready table (firstOf s row) work′
-      first l f empty is going = absurd (false≢true going)
-      first l f unit is going = absurd (false≢true going)
-      first l f (at i) is going = (h, row, starts (sound-set e refl) l f i is, omega (arith, sound-room e refl, long))
-
-      tested : (c : Bool) → eqb (length row) (h .arity) ≡ c → (d : Bool) → entriesFit h 0 row ≡ d
-          → Ready table (cond c (cond d (firstOf (h .set) row) (stopped (Refused Node))) (stopped (Refused RowLength))) work′
-      tested true l true f = first (eqb-true (length row) (h .arity) l) f (h .set) refl
-      tested true l false f = λ going. absurd (false≢true going)
-      tested false l d f = λ going. absurd (false≢true going)
-
-  -- ---- the answer of a sound set
+module _ {h : Head} {table : List Record} {work work₁ : List ℕ} (row : Row) {w : Weighed} (W : Weighs h table work w work₁)
+    {v : Verdict} (ruled : v ≡ verdictOf w (rulingOf (rowTests h row)) (h .used)) where
   -- whether one with this set lists the row
   abbrev listedBy : Set → Bool
-  listedBy s = isListed (setRows (h .arity) (listings (h .arity) (usedOf h table)) s) row
+  listedBy set = isListed (setRows (h .arity) (listings (h .arity) (usedOf h table)) set) row
 
-  -- unit does, where the row fits
-  unit-lists : Sound h table → length row ≡ h .arity → entriesFit h 0 row ≡ true → h .set ≡ unit → listedBy unit ≡ true
-  unit-lists good l f is =
-      let none : h .open_places ≡ 0 = subst (SetFits h (usedOf h table)) is (good .set) in
-      let all : replicate (h .arity) blank ≡ row =
-      ap (λ (n : ℕ). replicate n blank) (sym l) ∙ sym (restricted-none row) ∙ ap (λ (b : ℕ). restricted b row) (sym none) ∙ fits-restricted h row f in
-      or-false (same (replicate (h .arity) blank) row) ∙ ap (λ (xs : Row). same xs row) all ∙ same-refl row
+  -- ---- a question that is answered is of a sound set, and its row fits
+  module _ (answers : v .ruling ≡ Answer) where
+    fits : (w ≡ Sound) × Holds (rowTests h row)
+    fits = answered W (rowTests h row) (listedBy (h .set)) (rulingOf (rowTests h row)) (λ _. refl) cc
 
-  says-listed : (c : Bool) → saysMember (answerOf c) ≡ answer c
-  says-listed true = refl
-  says-listed false = refl
+    long : length row ≡ h .arity
+    long = eqb-true (length row) (h .arity) (fits .1 .0)
 
-  -- where the pass ends, the answer is this, and the work behind its stated part is as it was
-  abbrev Answers : State → List ℕ → State → List ℕ → Reply Bool → Type 0
-  Answers s work₁ e work₂ reply = Driven table s work₁ e work₂ → (saysMember (e .answer) ≡ reply) × (drop (h .used) work₂ ≡ drop (h .used) work₁)
+    pub few-places : length row ≤ 4
+    few-places = omega (arith, long, sound-set W (fits .0) .few-places)
 
-  sound-answers : Sound h table → (work₁ : List ℕ) (e : State) (work₂ : List ℕ) → Answers (startOf h row) work₁ e work₂ (unless rowTests listed)
-  sound-answers good work₁ e work₂ = tested (eqb (length row) (h .arity)) refl (entriesFit h 0 row) refl
-    where
-      at-once : (a : Member) → Answers (stopped a) work₁ e work₂ (saysMember a)
-      at-once a d = let z = d .still refl in (ap saysMember (z .0), ap (drop (h .used)) (z .1))
+    -- unit lists it: with no open place it is all blank
+    unit-lists : h .set ≡ unit → listedBy unit ≡ true
+    unit-lists is =
+        let none : h .open_places ≡ 0 = subst (SetFits h (usedOf h table)) is (sound-set W (fits .0) .set) in
+        let all : replicate (h .arity) blank ≡ row =
+        ap (λ (n : ℕ). replicate n blank) (sym long) ∙ sym (restricted-none row) ∙ ap (λ (b : ℕ). restricted b row) (sym none)
+        ∙ fits-restricted h row (fits .1 .1 .0) in
+        or-false (same (replicate (h .arity) blank) row) ∙ ap (λ (xs : Row). same xs row) all ∙ same-refl row
 
-      first : length row ≡ h .arity → entriesFit h 0 row ≡ true → (s : Set) → h .set ≡ s
-          → Answers (firstOf s row) work₁ e work₂ (answer (listedBy s))
-      first l f empty is d = at-once NotListed d
-      first l f unit is d = let z = at-once Listed d in (z .0 ∙ ap answer (sym (unit-lists good l f is)), z .1)
-      first l f (at i) is d =
-          let begins = starts good l f i is in
-          (ap saysMember (d .answer h row begins ∙ ap (λ (s : Set). answerOf (listedBy s)) is) ∙ says-listed (listedBy (at i)), d .rest h row begins)
+  -- ---- the pass stops at once, and has what is told; or it stands before the first record of a sound set
+  module _ {s : State} (begins : s ≡ begun (v .ruling) (h .set) row) where
+    abbrev Begins : State → Type 0
+    Begins t = ((t .going ≡ false) × (v .ruling ≡ Answer → t .listed ≡ listedBy (h .set))) ⊎ ((w ≡ Sound) × Starts h table row t)
 
-      tested : (c : Bool) → eqb (length row) (h .arity) ≡ c → (d : Bool) → entriesFit h 0 row ≡ d
-          → Answers (cond c (cond d (firstOf (h .set) row) (stopped (Refused Node))) (stopped (Refused RowLength))) work₁ e work₂
-          (cond c (cond d (answer listed) (refused (no 8))) (refused (no 13)))
-      tested true l true f = first (eqb-true (length row) (h .arity) l) f (h .set) refl
-      tested true l false f = at-once (Refused Node)
-      tested false l d f = at-once (Refused RowLength)
-
-  -- ---- the whole
-  -- work that is as long as asked is left cleared
-  long-work : leb (h .used) (length work) ≡ true → workAfter (member h table (length work) row) (h .used) work ≡ cleared (h .used) work
-  long-work l = rw l (go (sound h table) (eqb (length row) (h .arity)) (entriesFit h 0 row))
-    where
-      go : (c d e : Bool)
-          → workAfter (cond c (cond d (cond e (answer listed) (refused (no 8))) (refused (no 13))) (refused (no 11))) (h .used) work ≡ cleared (h .used) work
-      go true true true = refl
-      go true true false = refl
-      go true false e = refl
-      go false d e = refl
-
-  module _ (work₁ : List ℕ) (e : State) (work₂ : List ℕ) (long : length work₂ ≡ length work) (r : Member) (work₃ : List ℕ) (f : Finishes e h work₂ r work₃) where
-    -- the work is cleared where it is as long as asked
-    long-enough : (c : Bool) → leb (h .used) (length work) ≡ c → work₃ ≡ cond c (cleared (h .used) work₂) work₂
-    long-enough c l =
-        f .worked ∙ ap (λ (d : Bool). cond d (cleared (h .used) work₂) work₂) (ap (leb (h .used)) long ∙ l)
-
-    clears : leb (h .used) (length work) ≡ true → drop (h .used) work₂ ≡ drop (h .used) work → work₃ ≡ cleared (h .used) work
-    clears l rest = long-enough true l ∙ cleared-same (h .used) work work₂ rest
-
-    face-sound : Weighs h table work WeighedIs.Sound work₁ → Driven table (startOf h row) work₁ e work₂ → Members h table work row r work₃
-    face-sound w d =
-        let told = sound-answers (sound-set w refl) work₁ e work₂ d in
-        let l = le-leb (h .used) (length work) (sound-room w refl) in
-        record {
-          answer = ap saysMember (f .answer) ∙ told .0 ∙ sym (sound-reply w refl rowTests listed);
-          worked =
-              clears l (told .1 ∙ sound-behind w refl) ∙ sym (long-work l);
-        }
-
-    face-refused : (why : Refusal) → Weighs h table work (WeighedIs.Refused why) work₁ → Driven table (stopped (Refused why)) work₁ e work₂
-        → Members h table work row r work₃
-    face-refused why w d = record {
-      answer = ap saysMember (f .answer ∙ d .still refl .0) ∙ sym (refused-reply w refl rowTests listed);
-      worked = go (leb (h .used) (length work)) refl;
-    }
+    stops-or-goes : Begins s
+    stops-or-goes = subst Begins (sym begins) (go (v .ruling) refl (h .set) refl)
       where
-        kept : work₂ ≡ workAfter (member h table (length work) row) (h .used) work
-        kept = d .still refl .1 ∙ refused-work w refl rowTests listed
+        go : (x : Ruling) → v .ruling ≡ x → (set : Set) → h .set ≡ set → Begins (begun x set row)
+        go (Refused why) r set is = inl (refl, λ answers. cc)
+        go Answer r empty is = inl (refl, λ answers. ap listedBy (sym is))
+        go Answer r unit is = inl (refl, λ answers. sym (ap listedBy is ∙ unit-lists r is))
+        go Answer r (at i) is = let said = fits r .0 in
+            inr (said, record { sound = sound-set W said; long = long r; fits = fits r .1 .1 .0; root = is; first = refl; shown = refl; going = refl })
 
-        go : (c : Bool) → leb (h .used) (length work) ≡ c → work₃ ≡ workAfter (member h table (length work) row) (h .used) work
-        go true l = clears l (ap (drop (h .used)) (kept ∙ long-work l) ∙ drop-cleared (h .used) work) ∙ sym (long-work l)
-        go false l = long-enough false l ∙ kept
+    pub ready : length work₁ ≡ length work → Ready table s work₁
+    ready same-length going = ⊎-elim (λ z. absurd (false≢true (sym (z .0) ∙ going)))
+        (λ z. (h, row, z .1, omega (arith, sound-room W (z .0), same-length))) stops-or-goes
 
-    pub face : (w : Weighed) → Weighs h table work w work₁ → Driven table (begun w h row) work₁ e work₂ → Members h table work row r work₃
-    face WeighedIs.Sound w d = face-sound w d
-    face (WeighedIs.Refused why) w d = face-refused why w d
+    -- ---- the whole
+    pub face : {e : State} {work₂ work₃ : List ℕ} {r : Member} → length work₁ ≡ length work → length work₂ ≡ length work → Driven table s work₁ e work₂
+        → Finishes e v work₂ r work₃ → Members h table work row r work₃
+    face {e} {work₂} same-length same-length′ D F = record {
+      answer = F .answer ∙ rw ruled (replies W (rowTests h row) (listedBy (h .set)) (rulingOf (rowTests h row)) (λ _. refl) (e .listed) (λ answers.
+          ⊎-elim (λ z. ap (λ (t : State). t .listed) (D .still (z .0) .0) ∙ z .1 cc) (λ z. D .listed h row (z .1)) stops-or-goes));
+      worked = F .worked ∙ rw ruled (leaves W (rowTests h row) (listedBy (h .set)) (rulingOf (rowTests h row)) (λ _. refl) (omega arith, (omega arith, tt))
+          work₂ (same-length′ ∙ sym same-length) (⊎-elim (λ z. rw (D .still (z .0) .1)) (λ z. rw (z .0) (D .rest h row (z .1))) stops-or-goes));
+    }

@@ -1,40 +1,30 @@
 -- The loops of the covered functions, a turn at a time: entries written one after the other, then the places of a flag, then the
 -- entries of a row.
 use mathlib.Core.Bool.{Bool, _&&_, cond, false, true}
-use mathlib.Core.List.{List, [], _++_, _∷_}
+use mathlib.Core.List.{List}
 use mathlib.Core.Path.{_∙_, _≡_, ap, refl, sym}
-use Prim.Native.Nat.{_%_, _+_, _/_, _<_, suc, zero, ℕ}
+use Prim.Native.Nat.{_%_, _+_, _/_, _<_, suc, ℕ}
 use native.Mathlib.Numerals.{add-one}
 use native.Mathlib.Omega.{arith}
 use borrow.Author.Tests.{eq-eqb, eqb-true, ne-eqb}
 use lib.Dec.{eqb}
 use lib.ListN.{drop, getD, length, set, take}
-use lib.Seq.{drop-cons, take-length}
+use lib.Seq.{drop-cons, length-take-le, take-suc}
 use Rattle.paper.specs.declared.Head.{Head}
 use Rattle.paper.specs.Questions.{hasPlace}
 use Rattle.paper.specs.Refusals.{entriesFit, over}
 use Rattle.paper.specs.Row.{Row}
+use Rattle.sound.proofs.Overwriting.{over-more}
 use Rattle.member.specs.Rows.{stands}
 use Rattle.member.specs.Start.{entryFits}
 
--- ---- entries written one after the other
--- the first i entries are the new ones, the others stay
-abbrev pub written : List ℕ → List ℕ → ℕ → List ℕ
-written new old i = take i new ++ drop i old
-
--- one more
-pub written-more : (new old : List ℕ) (i : ℕ) → i < length new → i < length old → set (written new old i) i (getD new i 0) ≡ written new old (i + 1)
-written-more new old i h l = go new old i h l ∙ ap (written new old) (sym (add-one i))
-  where
-    go : (xs ys : List ℕ) (j : ℕ) → j < length xs → j < length ys → set (written xs ys j) j (getD xs j 0) ≡ written xs ys (suc j)
-    go [] ys j h l = absurd (omega arith)
-    go (x ∷ xs) [] j h l = absurd (omega arith)
-    go (x ∷ xs) (y ∷ ys) zero h l = refl
-    go (x ∷ xs) (y ∷ ys) (suc j) h l = ap {B = List ℕ} (λ zs. x ∷ zs) (go xs ys j (omega arith) (omega arith))
-
--- all of them
-pub written-all : (new old : List ℕ) → written new old (length new) ≡ over new old
-written-all new old = rw (take-length new)
+-- ---- entries written over others, one after the other
+pub written-more : (new old : List ℕ) (i : ℕ) → i < length new → i < length old → set (over (take i new) old) i (getD new i 0) ≡ over (take (i + 1) new) old
+written-more new old i h l =
+    let long : length (take i new) ≡ i = length-take-le i new (omega arith) in
+    ap (λ (n : ℕ). set (over (take i new) old) n (getD new i 0)) (sym long)
+    ∙ over-more (take i new) old (getD new i 0) (omega arith)
+    ∙ ap (λ (first : List ℕ). over first old) (sym (take-suc new i 0 h) ∙ ap (λ (n : ℕ). take n new) (sym (add-one i)))
 
 -- ---- the places of a flag one after the other
 module _ (n rest i : ℕ) (row : Row) (h : i < length row) where

@@ -8,7 +8,7 @@ use native.Mathlib.Omega.{arith}
 use borrow.Author.Tests.{eqb-false, eqb-true, ltb-false, ltb-true}
 use lib.Dec.{eqb, ltb}
 use lib.ListN.{drop, getD, length, set}
-use lib.Seq.{drop-set-lt, getD-set-other, getD-set-same, getD-take, length-take-le}
+use lib.Seq.{drop-set-lt, getD-set-other, getD-set-same, getD-take}
 use Rattle.paper.specs.declared.Head.{Head}
 use Rattle.paper.specs.declared.Record.{Record}
 use Rattle.paper.specs.declared.Set.the-variants.{Record as at}
@@ -16,15 +16,16 @@ use Rattle.paper.specs.Questions.{isListed}
 use Rattle.paper.specs.Records.{blankEntry, listing, listings, setRows, usedOf}
 use Rattle.paper.specs.Row.{Row}
 use Rattle.paper.specs.Sound.{entry}
-use Rattle.laws.specs.QuestionCauses.{IsProduct, IsSingle, IsUnion, SetFits, SoundAt}
+use Rattle.laws.specs.QuestionCauses.{SetFits, SoundAt}
+use Rattle.sound.proofs.Cells.{used-length}
 use Rattle.member.specs.Driving.{Starts}
-use Rattle.member.specs.Pass.{Reads, State, Turns, answerOf, cell, lists, past}
+use Rattle.member.specs.Pass.{Reads, State, Turns, cell, lists, past}
 use Rattle.member.proofs.Cells.{listedAt, turn-lists}
 use Rattle.member.proofs.Restricted.{fits-restricted, restricted}
 
-module _ (h : Head) (table : List Record) (row : Row) (s₀ : State) (begins : Starts h table row s₀) where
+module _ {h : Head} {table : List Record} {row : Row} {s₀ : State} (begins : Starts h table row s₀) where
   used-long : length (usedOf h table) ≡ h .used
-  used-long = length-take-le (h .used) table (begins .sound .used-there)
+  used-long = used-length h table (begins .sound .used-there)
 
   sounds : (i : ℕ) → i < length (usedOf h table) → SoundAt (h .arity) (h .nodes) (usedOf h table) i (entry (usedOf h table) i)
   sounds i l = begins .sound .records i (omega (arith, used-long))
@@ -50,7 +51,7 @@ module _ (h : Head) (table : List Record) (row : Row) (s₀ : State) (begins : S
     pub shown : s .row ≡ s₀ .row
     pub rest : drop (h .used) work ≡ drop (h .used) work₀
     pub goes : s .going ≡ true → (s .at ≤ s₀ .root) × ((j : ℕ) → j < s .at → getD work j 0 ≡ cell (lists-at j))
-    pub stops : s .going ≡ false → s .answer ≡ answerOf (isListed (listing h table) row)
+    pub stops : s .going ≡ false → s .listed ≡ isListed (listing h table) row
 
   pub passing-first : (work₀ : List ℕ) → Passing work₀ s₀ work₀
   passing-first work₀ = record {
@@ -61,7 +62,7 @@ module _ (h : Head) (table : List Record) (row : Row) (s₀ : State) (begins : S
     stops = λ e. absurd (true≢false (sym (begins .going) ∙ e));
   }
 
-  module _ (work₀ : List ℕ) (s : State) (work : List ℕ) (p : Passing work₀ s work) (going : s .going ≡ true) where
+  module _ {work₀ : List ℕ} {s : State} {work : List ℕ} (p : Passing work₀ s work) (going : s .going ≡ true) where
     inside : s .at < h .used
     inside = omega (arith, p .goes going .0, root-fits .0)
 
@@ -74,19 +75,10 @@ module _ (h : Head) (table : List Record) (row : Row) (s₀ : State) (begins : S
 
     -- and its operands do not stand behind it
     operands : (entry table (s .at) .left ≤ s .at) × (entry table (s .at) .right ≤ s .at)
-    operands = subst (λ (r : Record). (r .left ≤ s .at) × (r .right ≤ s .at)) read (⊎-elim single (⊎-elim union product) (sounds (s .at) in-used .kind))
-      where
-        r : Record
-        r = entry (usedOf h table) (s .at)
-
-        single : IsSingle r → (r .left ≤ s .at) × (r .right ≤ s .at)
-        single e = (omega (arith, e .1), omega (arith, e .2))
-
-        union : IsUnion (usedOf h table) (s .at) r → (r .left ≤ s .at) × (r .right ≤ s .at)
-        union e = (omega (arith, e .1), omega (arith, e .2))
-
-        product : IsProduct (usedOf h table) (s .at) r → (r .left ≤ s .at) × (r .right ≤ s .at)
-        product e = (omega (arith, e .1), omega (arith, e .2))
+    operands =
+        subst (λ (r : Record). (r .left ≤ s .at) × (r .right ≤ s .at)) read
+        (⊎-elim (λ e. (omega (arith, e .1), omega (arith, e .2)))
+        (⊎-elim (λ e. (omega (arith, e .1), omega (arith, e .2))) (λ e. (omega (arith, e .1), omega (arith, e .2)))) (sounds (s .at) in-used .kind))
 
     pub in-table : s .at < length table
     in-table = omega (arith, inside, begins .sound .used-there)
@@ -99,7 +91,7 @@ module _ (h : Head) (table : List Record) (row : Row) (s₀ : State) (begins : S
     }
 
     -- ---- one turn
-    module _ (here : s .at < length work) (s′ : State) (work′ : List ℕ) (turn : Turns s (entry table (s .at)) work s′ work′) where
+    module _ (here : s .at < length work) {s′ : State} {work′ : List ℕ} (turn : Turns s (entry table (s .at)) work s′ work′) where
       found : lists (s .row) work (entry table (s .at)) ≡ lists-at (s .at)
       found =
           (λ k. lists ((p .shown ∙ begins .shown) k) work (sym read k))
@@ -132,7 +124,7 @@ module _ (h : Head) (table : List Record) (row : Row) (s₀ : State) (begins : S
         rest = ap (drop (h .used)) written ∙ drop-set-lt (h .used) work (s .at) (cell (lists-at (s .at))) inside ∙ p .rest;
         goes = λ e. (omega (arith, ap (λ (t : State). t .at) state, ltb-true (s .at) (s₀ .root) (sym goes-on ∙ e)), cells);
         stops = λ e. let last : s .at ≡ s₀ .root = omega (arith, p .goes going .0, ltb-false (s .at) (s₀ .root) (sym goes-on ∙ e)) in
-            ap (λ (t : State). t .answer) state ∙ ap answerOf (ap lists-at last ∙ root-lists);
+            ap (λ (t : State). t .listed) state ∙ ap lists-at last ∙ root-lists;
       }
 
       pub comes-nearer : s′ .root + 1 - s′ .at < s .root + 1 - s .at

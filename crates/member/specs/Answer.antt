@@ -1,19 +1,13 @@
--- The end of the question: its answer, and the cleared work.
-use mathlib.Core.Bool.{cond}
+-- The end of the question, by its verdict: what the pass has found or the refusal, and the cleared work.
 use mathlib.Core.List.{List}
 use mathlib.Core.Path.{_≡_}
 use Prim.Native.Nat.{ℕ}
-use lib.Dec.{leb}
-use lib.ListN.{length, replicate}
-use Rattle.paper.specs.declared.Head.{Head}
 use Rattle.paper.specs.declared.Member.{Member}
-use Rattle.paper.specs.Refusals.{over}
+use Rattle.paper.specs.Answers.{saysMember}
+use Rattle.sound.specs.declared.verdict.Verdict.{Verdict}
+use Rattle.sound.specs.Verdicts.{cleared, replyOf}
 use Rattle.member.specs.Pass.{State}
 
--- the first n numbers are 0
-abbrev pub cleared : ℕ → List ℕ → List ℕ
-cleared n work = over (replicate n 0) work
-
-pub record Finishes (t : State) (h : Head) (work : List ℕ) (r : Member) (work′ : List ℕ) : Type 0 where
-  pub answer : r ≡ t .answer
-  pub worked : work′ ≡ cond (leb (h .used) (length work)) (cleared (h .used) work) work
+pub record Finishes (e : State) (v : Verdict) (work : List ℕ) (r : Member) (work′ : List ℕ) : Type 0 where
+  pub answer : saysMember r ≡ replyOf (v .ruling) (e .listed)
+  pub worked : work′ ≡ cleared (v .clear) work

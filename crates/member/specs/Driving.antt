@@ -12,7 +12,7 @@ use Rattle.paper.specs.Records.{listing}
 use Rattle.paper.specs.Refusals.{entriesFit}
 use Rattle.paper.specs.Row.{Row}
 use Rattle.laws.specs.QuestionCauses.{Sound}
-use Rattle.member.specs.Pass.{State, answerOf}
+use Rattle.member.specs.Pass.{State}
 use Rattle.member.specs.Rows.{padded}
 
 -- the pass for a row that fits stands before the first record of a sound set, which has a root
@@ -30,6 +30,6 @@ abbrev pub Ready : List Record → State → List ℕ → Type 0
 Ready table s work = s .going ≡ true → (h : Head) × (row : Row) × Starts h table row s × (h .used ≤ length work)
 
 pub record Driven (table : List Record) (s : State) (work : List ℕ) (e : State) (work′ : List ℕ) : Type 0 where
-  pub still : s .going ≡ false → (e .answer ≡ s .answer) × (work′ ≡ work)
-  pub answer : (h : Head) (row : Row) → Starts h table row s → e .answer ≡ answerOf (isListed (listing h table) row)
+  pub still : s .going ≡ false → (e ≡ s) × (work′ ≡ work)
+  pub listed : (h : Head) (row : Row) → Starts h table row s → e .listed ≡ isListed (listing h table) row
   pub rest : (h : Head) (row : Row) → Starts h table row s → drop (h .used) work′ ≡ drop (h .used) work

@@ -6,8 +6,6 @@ use Prim.Native.Nat.{ℕ, _+_, _<_}
 use lib.Dec.{eqb, ltb}
 use lib.ListN.{length, getD, set, replicate}
 use Rattle.paper.specs.declared.Record.{Record}
-use Rattle.paper.specs.declared.Member.{Member}
-use Rattle.paper.specs.declared.Member.the-variants.{Listed, NotListed}
 use Rattle.paper.specs.Records.{byKind}
 use Rattle.paper.specs.Row.{Row, blank}
 use Rattle.member.specs.Rows.{stands}
@@ -15,9 +13,6 @@ pub use Rattle.member.specs.declared.pass.State.{State}
 
 abbrev pub cell : Bool → ℕ
 cell c = cond c 1 0
-
-abbrev pub answerOf : Bool → Member
-answerOf c = cond c Listed NotListed
 
 -- whether a record lists the row restricted to its flag: a single, where its node stands at each place of the flag; a union, where its
 -- left or its right operand lists it; a product, where both do
@@ -27,13 +22,13 @@ lists row work r =
     let right : Bool = eqb (getD work (r .right) 0) 1 in
     byKind (r .kind) (stands (r .node) (r .flag) row) (left || right) (left && right)
 
--- nothing to do, and the answer
-abbrev pub stopped : Member → State
-stopped a = record { at = 0; root = 0; row = replicate 4 blank; answer = a; going = false }
+-- nothing to do, and what is known
+abbrev pub stopped : Bool → State
+stopped c = record { at = 0; root = 0; row = replicate 4 blank; listed = c; going = false }
 
 -- past a record
 abbrev pub past : State → Bool → State
-past t c = record { at = t .at + 1; root = t .root; row = t .row; answer = answerOf c; going = ltb (t .at) (t .root) }
+past t c = record { at = t .at + 1; root = t .root; row = t .row; listed = c; going = ltb (t .at) (t .root) }
 
 -- the turn has room
 pub record Reads (t : State) (r : Record) (work : List ℕ) : Type 0 where

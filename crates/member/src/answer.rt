@@ -1,19 +1,26 @@
 // The end of the question: its answer, and the cleared work.
 ghost use Rattle.member.specs.Answer.{Finishes};
 use crate::pass::State;
-use paper::Head;
 use paper::Member;
+use sound::Ruling;
+use sound::Verdict;
 use sound::clear;
 
-// The answer. The work is cleared where it is as long as asked; where it is not, the answer is refusal
-// 5, which leaves it as it is.
-pub(crate) fn finish(t: State, head: Head, work: &mut [u64]) -> Member
-    ensures { λ r. ⌜ Finishes t head (now (work .entry)) r (now (work .exit)) ⌝ }
+// What the pass has found, where the question is answered, else the refusal. The work is cleared as far
+// as the verdict says.
+pub(crate) fn finish(e: State, v: Verdict, work: &mut [u64]) -> Member
+    ensures { λ r. ⌜ Finishes e v (now (work .entry)) r (now (work .exit)) ⌝ }
 {
-    let used = head.used as usize;
-    if used <= work.len() {
-        clear(&mut *work, used);
+    clear(&mut *work, v.clear);
+    let ruling = v.ruling;
+    match ruling {
+        Ruling::Refused(why) => Member::Refused(why),
+        Ruling::Answer => {
+            if e.listed {
+                Member::Listed
+            } else {
+                Member::NotListed
+            }
+        }
     }
-    let answer = t.answer;
-    answer
 }

@@ -6,6 +6,7 @@ use crate::answer::finish;
 use crate::pass::State;
 use crate::pass::next;
 use crate::start::begin;
+use crate::start::verdict;
 use paper::Head;
 use paper::Member;
 use paper::Record;
@@ -21,9 +22,10 @@ pub fn member(head: Head, table: &[Record], work: &mut [u64], row: &[u16]) -> Me
     ensures { λ r. ⌜ Members head (now (table .entry)) (now (work .entry)) (now (row .entry)) r (now (work .exit)) ⌝ }
 {
     let w = weigh(head, table, &mut *work);
-    let s = begin(w, head, row);
+    let v = verdict(w, head, row);
+    let s = begin(v, head, row);
     let e = drive(table, s, &mut *work);
-    finish(e, head, &mut *work)
+    finish(e, v, &mut *work)
 }
 
 // All turns, a record each. It ends at the root, to which `at` rises by 1 a turn: no record above the

@@ -5,21 +5,20 @@ ghost use mathlib.Core.Path.{_≡_};
 ghost use Prim.Native.Nat.{_<_};
 ghost use lib.ListN.{length};
 ghost use Rattle.member.specs.Rows.{stands};
-ghost use Rattle.member.specs.Pass.{lists, answerOf, Reads, Turns};
-use paper::Member;
+ghost use Rattle.member.specs.Pass.{lists, Reads, Turns};
 use paper::Record;
 use paper::kinds::SINGLE;
 use paper::kinds::UNION;
 use paper::limits::MOST_PLACES;
 
 // `at` is the record that comes next, `root` the last one. `row` is the row asked for, blank behind its
-// end: by value, so that a turn holds no second slice. `answer` is that of the record last passed: at
-// the end the root's.
+// end: by value, so that a turn holds no second slice. `listed` is what the record last passed says: at
+// the end the root.
 pub(crate) struct State {
     pub(crate) at: usize,
     pub(crate) root: usize,
     pub(crate) row: [u16; MOST_PLACES],
-    pub(crate) answer: Member,
+    pub(crate) listed: bool,
     pub(crate) going: bool,
 }
 
@@ -64,17 +63,6 @@ fn lists(row: [u16; MOST_PLACES], r: Record, work: &[u64]) -> bool
     in_left & in_right
 }
 
-// What a cell says, as the answer that it is at the root.
-fn answer_of(listed: bool) -> Member
-    ensures { λ r. ⌜ r ≡ answerOf listed ⌝ }
-{
-    if listed {
-        Member::Listed
-    } else {
-        Member::NotListed
-    }
-}
-
 // One turn: the cell of record r. The pass goes on as long as the root is still to come.
 pub(crate) fn next(t: State, r: Record, work: &mut [u64]) -> State
     requires { ⌜ Reads t r (now work) ⌝ }
@@ -85,12 +73,11 @@ pub(crate) fn next(t: State, r: Record, work: &mut [u64]) -> State
     let row = t.row;
     let listed = lists(row, r, &*work);
     work[at] = listed as u64;
-    let answer = answer_of(listed);
     State {
         at: at + 1,
         root: root,
         row: row,
-        answer: answer,
+        listed: listed,
         going: at < root,
     }
 }

@@ -1,20 +1,24 @@
-// The beginning of the question: whether the row fits the head, by which it is refused 13 or 8, and
-// the pass before its first turn.
+// The beginning of the question: its verdict, for which a row that does not fit the head is refused 13
+// or 8, and the pass before its first turn.
 ghost use mathlib.Core.Path.{_≡_};
 ghost use Prim.Native.Nat.{_≤_};
 ghost use lib.ListN.{length};
 ghost use Rattle.paper.specs.Refusals.{entriesFit};
+ghost use Rattle.sound.specs.Verdicts.{rulingOf, verdictOf};
+ghost use Rattle.sound.specs.declared.verdict.Ruling.the-variants.{Answer};
 ghost use Rattle.member.specs.Pass.{stopped};
 ghost use Rattle.member.specs.Rows.{padded};
-ghost use Rattle.member.specs.Start.{FewPlaces, entryFits, firstOf, startOf, begun};
+ghost use Rattle.member.specs.Start.{begun, entryFits, firstOf, rowTests};
 use crate::pass::State;
 use paper::Head;
-use paper::Member;
 use paper::Place;
 use paper::Refusal;
 use paper::Set;
 use paper::limits::MOST_PLACES;
+use sound::Ruling;
+use sound::Verdict;
 use sound::Weighed;
+use sound::rule;
 
 // Whether an entry fits its place: a node of the tree at an open one, blank at a fixed one.
 fn entry_fits(open_place: bool, nodes: u16, entry: u16) -> bool
@@ -45,6 +49,28 @@ fn entries_fit(head: Head, row: &[u16]) -> bool
     true
 }
 
+// The tests of the row: 13, then 8, as the paper orders them. Entries are looked at only where there is
+// one for each place.
+fn row_tests(head: Head, row: &[u16]) -> Ruling
+    ensures { λ r. ⌜ r ≡ rulingOf (rowTests head (now (row .entry))) ⌝ }
+{
+    if row.len() != head.arity as usize {
+        return Ruling::Refused(Refusal::RowLength);
+    }
+    if !entries_fit(head, row) {
+        return Ruling::Refused(Refusal::Node);
+    }
+    Ruling::Answer
+}
+
+// The verdict. The row is tested in any case, but that counts only where the set is sound.
+pub(crate) fn verdict(w: Weighed, head: Head, row: &[u16]) -> Verdict
+    ensures { λ v. ⌜ v ≡ verdictOf w (rulingOf (rowTests head (now (row .entry)))) (head .used) ⌝ }
+{
+    let own = row_tests(head, row);
+    rule(w, own, head.used)
+}
+
 // The row, blank behind its end: no record of a sound set has a place there.
 fn padded(row: &[u16]) -> [u16; MOST_PLACES]
     requires { ⌜ length (now row) ≤ 4 ⌝ }
@@ -60,15 +86,15 @@ fn padded(row: &[u16]) -> [u16; MOST_PLACES]
     four
 }
 
-// No record has to be looked at: the answer is known, or it is a refusal.
-fn stopped(answer: Member) -> State
-    ensures { λ s. ⌜ s ≡ stopped answer ⌝ }
+// No record has to be looked at: what would be found is known, or is never told.
+fn stopped(listed: bool) -> State
+    ensures { λ s. ⌜ s ≡ stopped listed ⌝ }
 {
     State {
         at: 0,
         root: 0,
         row: [Place::BLANK; MOST_PLACES],
-        answer: answer,
+        listed: listed,
         going: false,
     }
 }
@@ -80,43 +106,29 @@ fn first(set: Set, row: &[u16]) -> State
     ensures { λ s. ⌜ s ≡ firstOf set (now (row .entry)) ⌝ }
 {
     match set {
-        Set::Empty => stopped(Member::NotListed),
-        Set::Unit => stopped(Member::Listed),
+        Set::Empty => stopped(false),
+        Set::Unit => stopped(true),
         Set::Record(root) => State {
             at: 0,
             root: root as usize,
             row: padded(row),
             // Never told: the root's turn gives another.
-            answer: Member::NotListed,
+            listed: false,
             going: true,
         },
     }
 }
 
-// A sound set and a row: 13, then 8, as the paper orders them. Entries are looked at only where there
-// is one for each place.
-fn start(head: Head, row: &[u16]) -> State
-    requires { ⌜ head .arity ≤ 4 ⌝ }
-    ensures { λ s. ⌜ s ≡ startOf head (now (row .entry)) ⌝ }
+// The pass before its first turn; or stopped, where the question is refused or the set has no root. The
+// row of a question that is answered is as long as the arity of a sound set, which is at most four.
+pub(crate) fn begin(v: Verdict, head: Head, row: &[u16]) -> State
+    requires { ⌜ (v .ruling ≡ Answer → length (now row) ≤ 4) ⌝ }
+    ensures { λ s. ⌜ s ≡ begun (v .ruling) (head .set) (now (row .entry)) ⌝ }
 {
-    if row.len() != head.arity as usize {
-        return stopped(Member::Refused(Refusal::RowLength));
-    }
-    if !entries_fit(head, row) {
-        return stopped(Member::Refused(Refusal::Node));
-    }
+    let ruling = v.ruling;
     let set = head.set;
-    first(set, row)
-}
-
-// The pass before its first turn; or stopped, with a refusal or with the answer. Only a sound set has
-// few places for certain, which is what the `requires` says.
-pub(crate) fn begin(w: Weighed, head: Head, row: &[u16]) -> State
-    requires { ⌜ FewPlaces w head ⌝ }
-    ensures { λ s. ⌜ s ≡ begun w head (now (row .entry)) ⌝ }
-{
-    match w {
-        Weighed::Refused(why) => stopped(Member::Refused(why)),
-        Weighed::Sound => start(head, row),
+    match ruling {
+        Ruling::Refused(_) => stopped(false),
+        Ruling::Answer => first(set, row),
     }
 }

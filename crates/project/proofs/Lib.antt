@@ -1,4 +1,4 @@
-pub mod Clearing
+pub mod Zeros
 pub mod Marking
 pub mod StateShape
 pub mod Operands

@@ -14,7 +14,7 @@ use Rattle.paper.specs.Refusals.{over}
 use Rattle.project.specs.Marks.{Kept, Marking, marksIn}
 use Rattle.laws.proofs.Counting.{length-countFrom}
 use Rattle.laws.proofs.Listed.{map-upTo}
-use Rattle.project.proofs.Clearing.{cleared, cleared-behind, cleared-length, cleared-zero}
+use Rattle.project.proofs.Zeros.{zeroed, zeroed-behind, zeroed-length, zeroed-within}
 use Rattle.sound.proofs.Overwriting.{over-is, zeros-more}
 
 -- ---- the numbers of a list, one more at its end
@@ -37,7 +37,7 @@ marking-none work out = record { worked = refl; long = refl; marked = λ node h.
 module _ (work out : List ℕ) (i : ℕ) (work′ out′ : List ℕ) (M : Marking work i out work′ out′) (inside : i < length work) where
   -- the next cell is as it was
   pub cell-kept : getD work′ i 0 ≡ getD work i 0
-  cell-kept = ap (λ (w : List ℕ). getD w i 0) (M .worked) ∙ cleared-behind work i i (omega arith)
+  cell-kept = ap (λ (w : List ℕ). getD w i 0) (M .worked) ∙ zeroed-behind work i i (omega arith)
 
   abbrev cell : ℕ
   cell = getD work i 0
@@ -109,23 +109,23 @@ module _ (work out : List ℕ) (n nodes : ℕ) (kept : Kept work n nodes) (fits 
       (λ k w. let below : k < n = omega (arith, length-take-le n work (kept .there)) in rw (getD-take n work k 0 below) (kept .small k below))
       (omega arith)
 
-  pub all-marked : (work′ out′ : List ℕ) → Marking work n (cleared out nodes) work′ out′ → out′ ≡ over marks out
+  pub all-marked : (work′ out′ : List ℕ) → Marking work n (zeroed out nodes) work′ out′ → out′ ≡ over marks out
   all-marked work′ out′ M =
       over-is marks out out′ (omega (arith, length-marks)) (M .long ∙ long)
       (λ i h. let node : i < nodes = omega (arith, length-marks) in
       M .marked i (omega (arith, long))
-      ∙ ap (cond (has (take n work) (suc i)) 1) (cleared-zero out nodes i node)
+      ∙ ap (cond (has (take n work) (suc i)) 1) (zeroed-within out nodes i node)
       ∙ sym (map-upTo (λ m. cond (has (take n work) (suc m)) 1 0) nodes i node))
       (λ i h. behind i (omega (arith, length-marks)) (ltb i (length out)) refl)
     where
-      long : length (cleared out nodes) ≡ length out
-      long = cleared-length out nodes fits
+      long : length (zeroed out nodes) ≡ length out
+      long = zeroed-length out nodes fits
 
       behind : (i : ℕ) → nodes ≤ i → (c : Bool) → ltb i (length out) ≡ c → getD out′ i 0 ≡ getD out i 0
       behind i h true e =
           M .marked i (omega (arith, long, ltb-true i (length out) e))
-          ∙ ap (λ (c : Bool). cond c 1 (getD (cleared out nodes) i 0)) (none-behind i h)
-          ∙ cleared-behind out nodes i h
+          ∙ ap (λ (c : Bool). cond c 1 (getD (zeroed out nodes) i 0)) (none-behind i h)
+          ∙ zeroed-behind out nodes i h
       behind i h false e =
           let past : length out ≤ i = ltb-false i (length out) e in
           List·getD-eq-default out′ 0 (omega (arith, M .long, long)) ∙ sym (List·getD-eq-default out 0 past)

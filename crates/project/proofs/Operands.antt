@@ -1,8 +1,9 @@
--- The rows of the used records of a sound set: those of a single, of a union and of a product from their operands', their shape, and that
--- every record lists some row.
+-- The used records of a sound set. First their operands, which have no higher numbers; then their rows: those of a single, of a union and of a
+-- product from their operands', their shape, and that every record lists some row.
 use mathlib.Core.List.{List, [], _++_, _∷_}
+use mathlib.Core.Logic.{⊎-elim}
 use mathlib.Core.Path.{_∙_, _≡_, ap₂}
-use Prim.Native.Nat.{_<_, ℕ}
+use Prim.Native.Nat.{_<_, _≤_, ℕ}
 use native.Mathlib.Omega.{arith}
 use lib.ListN.{getD, length, take}
 use Rattle.paper.specs.declared.Head.{Head}
@@ -30,6 +31,12 @@ module _ (h : Head) (table : List Record) where
   module _ (S : Sound h table) where
     number : length used ≡ h .used
     number = used-length h table (S .used-there)
+
+    -- a single's operands are 0
+    pub operands-low : (k : ℕ) → k < h .used → (entry used k .left ≤ k) × (entry used k .right ≤ k)
+    operands-low k below =
+        ⊎-elim (λ e. (omega (arith, e .1), omega (arith, e .2)))
+        (⊎-elim (λ e. (omega (arith, e .1), omega (arith, e .2))) (λ e. (omega (arith, e .1), omega (arith, e .2)))) (S .records k below .kind)
 
     pub shaped : (k : ℕ) → k < h .used → Shape (h .arity) (entry used k .flag) (rows k)
     shaped k below =

@@ -8,8 +8,8 @@ use Prim.Native.Nat.{_+_, _<_, _≤_, suc, zero, ℕ}
 use native.Mathlib.Omega.{arith}
 use borrow.Author.Tests.{eq-eqb, eqb-false, eqb-true, ne-eqb}
 use lib.Dec.{eqb}
-use lib.ListN.{getD, length, length-set, set}
-use lib.Seq.{getD-set-other, getD-set-same, getD-take}
+use lib.ListN.{drop, getD, length, length-set, set}
+use lib.Seq.{drop-set-lt, getD-set-other, getD-set-same, getD-take}
 use Rattle.paper.specs.declared.Head.{Head}
 use Rattle.paper.specs.declared.Record.{Record}
 use Rattle.paper.specs.Questions.{hasPlace}
@@ -36,8 +36,7 @@ module _ (h : Head) (table : List Record) (S : Sound h table) (i : ℕ) (inside 
   pub record Down (d e : ℕ) (cells cells′ : List ℕ) : Type 0 where
     pub still : Cells e cells′
     pub found : (n : ℕ) → n < h .nodes → Found d cells n ↔ Found e cells′ n
-    pub long : length cells′ ≡ length cells
-    pub rest : (j : ℕ) → h .used ≤ j → getD cells′ j 0 ≡ getD cells j 0
+    pub rest : drop (h .used) cells′ ≡ drop (h .used) cells
 
   module _ (k : ℕ) (used : k < h .used) (cells : List ℕ) (C : Cells (suc k) cells) where
     -- record k is marked, and lists the node
@@ -47,6 +46,7 @@ module _ (h : Head) (table : List Record) (S : Sound h table) (i : ℕ) (inside 
     -- what of the cells is to be shown
     record Change (cells′ : List ℕ) : Type 0 where
       long : length cells′ ≡ length cells
+      rest : drop (h .used) cells′ ≡ drop (h .used) cells
       higher : (j : ℕ) → k < j → getD cells′ j 0 ≡ getD cells j 0
       own : getD cells′ k 0 ≤ h .nodes
       lower : (j : ℕ) → j < k → getD cells′ j 0 ≤ 1
@@ -69,8 +69,7 @@ module _ (h : Head) (table : List Record) (S : Sound h table) (i : ℕ) (inside 
             (λ e. omega (arith, c .higher j (omega arith), C .nodes j (omega arith) l)) (at-or j);
       };
       found = λ n small. (onward n small, back n small);
-      long = c .long;
-      rest = λ j w. c .higher j (omega arith);
+      rest = c .rest;
     }
       where
         onward : (n : ℕ) → n < h .nodes → Found (suc k) cells n → Found k cells′ n
@@ -91,6 +90,7 @@ module _ (h : Head) (table : List Record) (S : Sound h table) (i : ℕ) (inside 
     unmarked : (getD cells k 0 ≡ 1 → ⊥) → Down (suc k) k cells cells
     unmarked none = changed cells (record {
       long = refl;
+      rest = refl;
       higher = λ j w. refl;
       own = omega (arith, C .marks k (omega arith));
       lower = λ j w. C .marks j (omega arith);
@@ -113,6 +113,7 @@ module _ (h : Head) (table : List Record) (S : Sound h table) (i : ℕ) (inside 
         kept-single : Down (suc k) k cells (set cells k (kept i r))
         kept-single = changed (set cells k (kept i r)) (record {
           long = length-set cells k (kept i r);
+          rest = drop-set-lt (h .used) cells k (kept i r) used;
           higher = λ j w. other-cell j (λ e. omega arith);
           own = omega (arith, own-cell, kept-most (hasPlace (r .flag) i));
           lower = λ j w. omega (arith, other-cell j (λ e. omega arith), C .marks j (omega arith));
@@ -138,9 +139,6 @@ module _ (h : Head) (table : List Record) (S : Sound h table) (i : ℕ) (inside 
           → Lists h table S i inside k n ↔ (Lists h table S i inside (r .left) n ⊎ Lists h table S i inside (r .right) n)) where
         abbrev handed : List ℕ
         handed = handedOn k r cells
-
-        long-handed : length handed ≡ length cells
-        long-handed = simp length-set
 
         right-marked : getD handed (r .right) 0 ≡ 1
         right-marked = getD-set-same (set (set cells k 0) (r .left) 1) (r .right) 1 0 (simp length-set (omega (arith, C .there)))
@@ -175,7 +173,11 @@ module _ (h : Head) (table : List Record) (S : Sound h table) (i : ℕ) (inside 
 
         handed-on : Down (suc k) k cells handed
         handed-on = changed handed (record {
-          long = long-handed;
+          long = simp length-set;
+          rest =
+              drop-set-lt (h .used) (set (set cells k 0) (r .left) 1) (r .right) 1 (omega arith)
+              ∙ drop-set-lt (h .used) (set cells k 0) (r .left) 1 (omega arith)
+              ∙ drop-set-lt (h .used) cells k 0 used;
           higher = λ j w. no-operand j (λ e. omega arith) (λ e. omega arith) ∙ getD-set-other cells k j 0 0 (λ z. omega arith);
           own = omega (arith, own-cleared);
           lower = λ j w. ⊎-elim (λ (e, _). omega (arith, e)) (λ e. omega (arith, e, C .marks j (omega arith))) (lower-cell j w);
@@ -199,14 +201,13 @@ module _ (h : Head) (table : List Record) (S : Sound h table) (i : ℕ) (inside 
 
   -- ---- all records
   stays : (cells : List ℕ) → Cells 0 cells → Down 0 0 cells cells
-  stays cells C = record { still = C; found = λ n small. (λ f. f, λ f. f); long = refl; rest = λ j w. refl }
+  stays cells C = record { still = C; found = λ n small. (λ f. f, λ f. f); rest = refl }
 
   then : {d e : ℕ} {cells cells′ cells″ : List ℕ} → Down d e cells cells′ → Down e 0 cells′ cells″ → Down d 0 cells cells″
   then a b = record {
     still = b .still;
     found = λ n small. Iff·trans (a .found n small) (b .found n small);
-    long = b .long ∙ a .long;
-    rest = λ j w. b .rest j w ∙ a .rest j w;
+    rest = b .rest ∙ a .rest;
   }
 
   pub passes : (d : ℕ) → d ≤ h .used → (cells : List ℕ) → Cells d cells → Down d 0 cells (passed i table d cells)

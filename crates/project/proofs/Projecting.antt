@@ -8,27 +8,27 @@ use Prim.Native.Nat.{_+_, _-_, _<_, _≤_, suc, zero, ℕ}
 use native.Mathlib.Omega.{arith}
 use borrow.Author.Tests.{eq-eqb, eqb-false, eqb-true, leb-true}
 use lib.Dec.{eqb, leb}
-use lib.ListN.{getD, length, length-set, set, take}
-use lib.Seq.{getD-set-other, getD-set-same, getD-take, length-take-le}
+use lib.ListN.{drop, getD, length, length-set, set, take}
+use lib.Seq.{drop-set-lt, getD-set-other, getD-set-same, getD-take, length-take-le}
 use Rattle.paper.specs.declared.Head.{Head}
 use Rattle.paper.specs.declared.Record.{Record}
 use Rattle.paper.specs.declared.Set.{Set}
 use Rattle.paper.specs.declared.Set.the-variants.{Empty as empty, Unit as unit, Record as at}
 use Rattle.paper.specs.Lists.{countFrom, has}
 use Rattle.paper.specs.Questions.{hasPlace, marksOf, standsAt}
-use Rattle.paper.specs.Records.{listing, listings, setRows, usedOf}
+use Rattle.paper.specs.Records.{blankEntry, listing, listings, setRows, usedOf}
 use Rattle.paper.specs.Refusals.{isOpen}
+use Rattle.paper.specs.Sound.{entry}
 use Rattle.laws.specs.QuestionCauses.{SetFits, Sound}
 use Rattle.laws.specs.Said.{StandsIn}
 use Rattle.laws.proofs.Listed.{row-stands, stands-row}
 use Rattle.laws.proofs.Bits.{no-places}
 use Rattle.laws.proofs.Lists.{both-true, iff-eq, or-cases, or-left, or-right, which}
 use Rattle.project.specs.Marks.{Kept, marksIn}
-use Rattle.project.specs.Passing.{passed, turnsLeft}
+use Rattle.project.specs.Passing.{InWork, Ready, passed, turnsLeft}
 use Rattle.project.specs.Start.{rootMarked, rootState}
-use Rattle.project.proofs.Clearing.{cleared, cleared-behind, cleared-length, cleared-zero}
-use Rattle.project.proofs.Operands.{rows}
-use Rattle.sound.proofs.Overwriting.{zeros-agree}
+use Rattle.project.proofs.Zeros.{zeroed, zeroed-length, zeroed-rest, zeroed-within}
+use Rattle.project.proofs.Operands.{operands-low, rows}
 use Rattle.project.proofs.Passing.{Cells, Down, Found, above, below, passes}
 
 -- ---- the numbers of a list, by index
@@ -48,6 +48,12 @@ same-bytes : (p q : ℕ → Bool) (n k : ℕ) → ((m : ℕ) → m < k + n → p
 same-bytes p q zero k agree = refl
 same-bytes p q (suc n) k agree = rw (agree k (omega arith), same-bytes p q n (suc k) (λ m w. agree m (omega arith)))
 
+-- what the pass leaves: each cell keeps a node or none, behind the cells the work is as it was, and the bytes are the paper's
+pub record Ends (h : Head) (table : List Record) (place : ℕ) (work cells : List ℕ) : Type 0 where
+  pub kept : Kept cells (h .used) (h .nodes)
+  pub behind : drop (h .used) cells ≡ drop (h .used) work
+  pub marks : marksIn (take (h .used) cells) (h .nodes) ≡ marksOf h table place
+
 module _ (h : Head) (table : List Record) (S : Sound h table) (place : ℕ) (opened : isOpen h place ≡ true) where
   abbrev i : ℕ
   i = place - 1
@@ -58,44 +64,41 @@ module _ (h : Head) (table : List Record) (S : Sound h table) (place : ℕ) (ope
   there : (leb place (h .arity) ≡ true) × (hasPlace (h .open_places) i ≡ true)
   there = both-true (leb place (h .arity)) (hasPlace (h .open_places) i) (from-one .1)
 
-  pub inside : i < h .arity
+  inside : i < h .arity
   inside = omega (arith, leb-true 1 place (from-one .0), leb-true place (h .arity) (there .0), S .some-places)
 
   module _ (work : List ℕ) (room : h .used ≤ length work) where
     -- ---- the beginning
     abbrev zeros : List ℕ
-    zeros = cleared work (h .used)
+    zeros = zeroed work (h .used)
 
     abbrev first : Set → List ℕ
     first set = rootMarked set zeros
 
     abbrev turns : Set → ℕ
-    turns set = turnsLeft (rootState h place set)
-
-    all-zero : (k : ℕ) → k < h .used → getD zeros k 0 ≡ 0
-    all-zero k w = cleared-zero work (h .used) k w
+    turns set = turnsLeft (rootState place set)
 
     -- all cells are 0, but for the root's
     root-cell : (r : ℕ) → r < h .used → getD (set zeros r 1) r 0 ≡ 1
-    root-cell r l = getD-set-same zeros r 1 0 (omega (arith, cleared-length work (h .used) room))
+    root-cell r l = getD-set-same zeros r 1 0 (omega (arith, zeroed-length work (h .used) room))
 
     other-cell : (r k : ℕ) → k < h .used → (k ≡ r → ⊥) → getD (set zeros r 1) k 0 ≡ 0
-    other-cell r k w other = getD-set-other zeros r k 1 0 other ∙ all-zero k w
+    other-cell r k w other = getD-set-other zeros r k 1 0 other ∙ zeroed-within work (h .used) k w
 
     no-root : Cells h table S i inside 0 zeros
     no-root = record {
-      there = omega (arith, room, cleared-length work (h .used) room);
+      there = omega (arith, room, zeroed-length work (h .used) room);
       marks = λ k w. absurd (omega arith);
-      nodes = λ k w l. omega (arith, all-zero k l);
+      nodes = λ k w l. omega (arith, zeroed-within work (h .used) k l);
     }
 
     nothing : (n : ℕ) → Found h table S i inside 0 zeros n → ⊥
-    nothing n (above k w l e) = omega (arith, all-zero k l, e)
+    nothing n (above k w l e) = omega (arith, zeroed-within work (h .used) k l, e)
     nothing n (below k w e m) = omega arith
 
     root-fits : (r : ℕ) → r < h .used → Cells h table S i inside (suc r) (set zeros r 1)
     root-fits r l = record {
-      there = omega (arith, room, length-set zeros r 1, cleared-length work (h .used) room);
+      there = omega (arith, room, length-set zeros r 1, zeroed-length work (h .used) room);
       marks = λ k w.
           ⊎-elim (λ e. omega (arith, ap (λ (z : ℕ). getD (set zeros r 1) z 0) (eqb-true k r e), root-cell r l))
           (λ e. omega (arith, other-cell r k (omega arith) (eqb-false k r e))) (which (eqb k r));
@@ -120,32 +123,30 @@ module _ (h : Head) (table : List Record) (S : Sound h table) (place : ℕ) (ope
         absurd (false≢true (sym (no-places i) ∙ ap (λ (b : ℕ). hasPlace b i) (sym fits) ∙ there .1))
     begins-found (at r) fits n = (root-found r (fits .0) n, λ m. below r (omega arith) (root-cell r (fits .0)) m)
 
+    -- each record in reach is in the table, and its cells are in the work
+    pub pass-ready : (cells : List ℕ) → length cells ≡ length work → Ready table (rootState place (h .set)) cells
+    pass-ready cells long = record { there = omega (arith, few, S .used-there); cells = λ k w. in-work k (omega (arith, few)) }
+      where
+        few : turns (h .set) ≤ h .used
+        few = begins (h .set) (S .set) .0
+
+        in-work : (k : ℕ) → k < h .used → InWork k (entry table k) cells
+        in-work k l =
+            let same : entry (usedOf h table) k ≡ entry table k = getD-take (h .used) table k blankEntry l in
+            let (left, right) = operands-low h table S k l in
+            rw (← same) (record { own = omega (arith, room); left = omega (arith, room, left); right = omega (arith, room, right) })
+
     -- ---- the end
-    abbrev pub last : List ℕ
+    abbrev last : List ℕ
     last = passed i table (turns (h .set)) (first (h .set))
 
     down : Down h table S i inside (turns (h .set)) 0 (first (h .set)) last
     down = let (few, cells) = begins (h .set) (S .set) in passes h table S i inside (turns (h .set)) few (first (h .set)) cells
 
-    -- each cell keeps a node, or none
-    pub last-kept : Kept last (h .used) (h .nodes)
-    last-kept = record { there = down .still .there; small = λ k w. down .still .nodes k (omega arith) w }
-
-    first-long : (set : Set) → length (first set) ≡ length work
-    first-long empty = cleared-length work (h .used) room
-    first-long unit = cleared-length work (h .used) room
-    first-long (at r) = length-set zeros r 1 ∙ cleared-length work (h .used) room
-
-    first-behind : (set : Set) → SetFits h (usedOf h table) set → (k : ℕ) → h .used ≤ k → getD (first set) k 0 ≡ getD work k 0
-    first-behind empty fits k w = cleared-behind work (h .used) k w
-    first-behind unit fits k w = cleared-behind work (h .used) k w
-    first-behind (at r) fits k w = getD-set-other zeros r k 1 0 (λ e. omega (arith, fits .0)) ∙ cleared-behind work (h .used) k w
-
-    -- behind the cells the work is as it was
-    pub last-cleared : cleared last (h .used) ≡ cleared work (h .used)
-    last-cleared =
-        zeros-agree work (h .used) last room (down .long ∙ first-long (h .set))
-        (λ k w. down .rest k w ∙ first-behind (h .set) (S .set) k w)
+    first-behind : (set : Set) → SetFits h (usedOf h table) set → drop (h .used) (first set) ≡ drop (h .used) work
+    first-behind empty fits = zeroed-rest work (h .used)
+    first-behind unit fits = zeroed-rest work (h .used)
+    first-behind (at r) fits = drop-set-lt (h .used) zeros r 1 (fits .0) ∙ zeroed-rest work (h .used)
 
     -- a node is kept exactly if it stands at the place in some row
     kept-stands : (n : ℕ) → n < h .nodes → has (take (h .used) last) (suc n) ≡ standsAt i n (listing h table)
@@ -171,6 +172,9 @@ module _ (h : Head) (table : List Record) (S : Sound h table) (place : ℕ) (ope
         back : standsAt i n (listing h table) ≡ true → has (take (h .used) last) (suc n) ≡ true
         back e = kept-at (found .1 (stands-row (listing h table) i n e))
 
-    -- so the bytes are the paper's
-    pub last-marks : marksIn (take (h .used) last) (h .nodes) ≡ marksOf h table place
-    last-marks = same-bytes (λ n. has (take (h .used) last) (suc n)) (λ n. standsAt i n (listing h table)) (h .nodes) 0 (λ n w. kept-stands n (omega arith))
+    pub pass-ends : Ends h table place work last
+    pass-ends = record {
+      kept = record { there = down .still .there; small = λ k w. down .still .nodes k (omega arith) w };
+      behind = down .rest ∙ first-behind (h .set) (S .set);
+      marks = same-bytes (λ n. has (take (h .used) last) (suc n)) (λ n. standsAt i n (listing h table)) (h .nodes) 0 (λ n w. kept-stands n (omega arith));
+    }

@@ -1,14 +1,17 @@
--- The end of a projection: the bytes that the cells give. First the two loops, then `finish`, which asks for nothing where it is refused.
+-- The end of a projection: the bytes that the cells give. First the two loops, then `finish`, by the verdict.
 use mathlib.Core.Bool.{cond}
 use mathlib.Core.List.{List, map}
 use mathlib.Core.Path.{_≡_}
 use Prim.Native.Nat.{ℕ, suc, _≤_, _<_}
 use lib.ListN.{length, getD, replicate, take}
 use Rattle.paper.specs.Lists.{has, upTo}
-use Rattle.paper.specs.Refusals.{over}
+use Rattle.paper.specs.Answers.{saysProjected, told}
+use Rattle.paper.specs.Refusals.{Reply, outputAfter, over}
+use Rattle.paper.specs.declared.Head.{Head}
 use Rattle.paper.specs.declared.Projected.{Projected}
-use Rattle.paper.specs.declared.Projected.the-variants.{Marks, Refused}
-use Rattle.project.specs.Passing.{State}
+use Rattle.sound.specs.declared.verdict.Ruling.the-variants as RulingIs
+use Rattle.sound.specs.declared.verdict.Verdict.{Verdict}
+use Rattle.sound.specs.Verdicts.{cleared, replyOf}
 
 -- each of the first n cells is 0, or has a node below `nodes` and 1 more
 pub record Kept (work : List ℕ) (n nodes : ℕ) : Type 0 where
@@ -25,23 +28,15 @@ pub record Marking (work : List ℕ) (n : ℕ) (out work′ out′ : List ℕ) :
 abbrev pub marksIn : List ℕ → ℕ → List ℕ
 marksIn cells nodes = map (λ node. cond (has cells (suc node)) 1 0) (upTo nodes)
 
-abbrev pub FinishableBy : Projected → State → List ℕ → List ℕ → Type 0
-FinishableBy Marks e work out = Kept work (e .used) (e .nodes) × (e .nodes ≤ length out)
-FinishableBy (Refused why) e work out = Unit {0}
+-- where the question is answered
+abbrev pub Finishable : Verdict → Head → List ℕ → List ℕ → Type 0
+Finishable v h work out = v .ruling ≡ RulingIs.Answer → Kept work (v .clear) (h .nodes) × (h .nodes ≤ length out)
 
-abbrev pub Finishable : State → List ℕ → List ℕ → Type 0
-Finishable e work out = FinishableBy (e .answer) e work out
+-- what the ruling says, by the cells
+abbrev pub marksReply : Verdict → Head → List ℕ → Reply (List ℕ)
+marksReply v h work = replyOf (v .ruling) (marksIn (take (v .clear) work) (h .nodes))
 
--- a refusal leaves all as it is
-abbrev pub finishedWork : Projected → State → List ℕ → List ℕ
-finishedWork Marks e work = over (replicate (e .used) 0) work
-finishedWork (Refused why) e work = work
-
-abbrev pub finishedOut : Projected → State → List ℕ → List ℕ → List ℕ
-finishedOut Marks e work out = over (marksIn (take (e .used) work) (e .nodes)) out
-finishedOut (Refused why) e work out = out
-
-pub record Finishes (e : State) (work out : List ℕ) (r : Projected) (work′ out′ : List ℕ) : Type 0 where
-  pub answer : r ≡ e .answer
-  pub worked : work′ ≡ finishedWork (e .answer) e work
-  pub written : out′ ≡ finishedOut (e .answer) e work out
+pub record Finishes (v : Verdict) (h : Head) (work out : List ℕ) (r : Projected) (work′ out′ : List ℕ) : Type 0 where
+  pub answer : saysProjected r ≡ told (λ _. tt) (marksReply v h work)
+  pub worked : work′ ≡ cleared (v .clear) work
+  pub written : out′ ≡ outputAfter (marksReply v h work) out

@@ -42,14 +42,7 @@ pub record InWork (at : ℕ) (r : Record) (work : List ℕ) : Type 0 where
 
 -- on to the record below, if there is one
 abbrev pub further : State → State
-further t = record {
-  at = t .at - 1;
-  index = t .index;
-  used = t .used;
-  nodes = t .nodes;
-  answer = t .answer;
-  going = cond (eqb (t .at) 0) false (t .going);
-}
+further t = record { at = t .at - 1; index = t .index; going = cond (eqb (t .at) 0) false (t .going) }
 
 pub record Passes (t : State) (r : Record) (work : List ℕ) (s : State) (work′ : List ℕ) : Type 0 where
   pub state : s ≡ further t
@@ -64,8 +57,5 @@ pub record Ready (table : List Record) (s : State) (work : List ℕ) : Type 0 wh
   pub there : turnsLeft s ≤ length table
   pub cells : (k : ℕ) → k < turnsLeft s → InWork k (entry table k) work
 
-pub record Driven (table : List Record) (s : State) (work : List ℕ) (r : State) (work′ : List ℕ) : Type 0 where
-  pub used : r .used ≡ s .used
-  pub nodes : r .nodes ≡ s .nodes
-  pub answer : r .answer ≡ s .answer
-  pub worked : work′ ≡ passed (s .index) table (turnsLeft s) work
+abbrev pub Driven : List Record → State → List ℕ → List ℕ → Type 0
+Driven table s work work′ = work′ ≡ passed (s .index) table (turnsLeft s) work

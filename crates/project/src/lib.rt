@@ -7,6 +7,7 @@ ghost use Rattle.project.specs.Passing.{Ready, Driven};
 use crate::marks::finish;
 use crate::pass::next;
 use crate::start::begin;
+use crate::start::verdict;
 use crate::state::State;
 use paper::Head;
 use paper::Projected;
@@ -17,8 +18,8 @@ mod pass;
 mod start;
 mod state;
 
-// The marks of a place's nodes, in the lent output. It is written at the end, when nothing can refuse
-// any more; `begin` is told its length, since 10 is found there.
+// The marks of a place's nodes, in the lent output, which is written at the end. Its length is taken
+// before, since 10 is found with the other refusals.
 pub fn project(
     head: Head,
     table: &[Record],
@@ -30,16 +31,17 @@ pub fn project(
 {
     let w = sound::weigh(head, table, &mut *work);
     let room = out.len();
-    let s = begin(w, head, &mut *work, place, room);
-    let e = drive(table, s, &mut *work);
-    finish(e, &mut *work, &mut *out)
+    let v = verdict(w, head, place, room);
+    let s = begin(v, head, &mut *work, place);
+    drive(table, s, &mut *work);
+    finish(v, head, &mut *work, &mut *out)
 }
 
 // All turns, from the root down. It ends with record 0, to which `at` falls by 1 a turn. Operands have
 // lower numbers, so a record has its mark, if it gets one, when its turn comes.
 fn drive(table: &[Record], s: State, work: &mut [u64]) -> State
     requires { ⌜ Ready (now table) s (now work) ⌝ }
-    ensures { λ r. ⌜ Driven (now (table .entry)) s (now (work .entry)) r (now (work .exit)) ⌝ }
+    ensures { λ _. ⌜ Driven (now (table .entry)) s (now (work .entry)) (now (work .exit)) ⌝ }
 {
     let mut t = s;
     while t.going {

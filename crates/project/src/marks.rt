@@ -2,11 +2,14 @@
 // cleared.
 ghost use mathlib.Core.Path.{_≡_};
 ghost use Prim.Native.Nat.{_≤_};
-ghost use lib.ListN.{length, replicate, take};
+ghost use lib.ListN.{length, replicate};
 ghost use Rattle.paper.specs.Refusals.{over};
-ghost use Rattle.project.specs.Marks.{Kept, Marking, marksIn, Finishable, Finishes};
-use crate::state::State;
+ghost use Rattle.project.specs.Marks.{Kept, Marking, Finishable, Finishes};
+use paper::Head;
 use paper::Projected;
+use sound::Ruling;
+use sound::Verdict;
+use sound::clear;
 
 // The first n bytes, set to 0, whatever the caller left there.
 fn unmark(out: &mut [u8], n: usize)
@@ -41,27 +44,23 @@ fn mark(work: &mut [u64], n: usize, out: &mut [u8])
     }
 }
 
-// A byte for each node, by the first cells. The cells are cleared. Several may keep one node, and none
-// keeps those that stand nowhere: so all bytes are 0 before some are 1.
-fn write_marks(work: &mut [u64], used: usize, out: &mut [u8], nodes: usize)
-    requires { ⌜ Kept (now work) used nodes × (nodes ≤ length (now out)) ⌝ }
-    ensures { λ _. ⌜ (now (work .exit) ≡ over (replicate used 0) (now (work .entry)))
-        × (now (out .exit) ≡ over (marksIn (take used (now (work .entry))) nodes) (now (out .entry))) ⌝ }
+// The marks, or the refusal, which leaves the output as it is; the work is cleared.
+pub(crate) fn finish(v: Verdict, head: Head, work: &mut [u64], out: &mut [u8]) -> Projected
+    requires { ⌜ Finishable v head (now work) (now out) ⌝ }
+    ensures { λ r. ⌜ Finishes v head (now (work .entry)) (now (out .entry)) r (now (work .exit)) (now (out .exit)) ⌝ }
 {
-    unmark(&mut *out, nodes);
-    mark(&mut *work, used, &mut *out);
-}
-
-// The marks, or the refusal, which leaves both buffers as they are.
-pub(crate) fn finish(e: State, work: &mut [u64], out: &mut [u8]) -> Projected
-    requires { ⌜ Finishable e (now work) (now out) ⌝ }
-    ensures { λ r. ⌜ Finishes e (now (work .entry)) (now (out .entry)) r (now (work .exit)) (now (out .exit)) ⌝ }
-{
-    let answer = e.answer;
-    match answer {
-        Projected::Refused(why) => Projected::Refused(why),
-        Projected::Marks => {
-            write_marks(&mut *work, e.used, &mut *out, e.nodes);
+    let ruling = v.ruling;
+    match ruling {
+        Ruling::Refused(why) => {
+            clear(&mut *work, v.clear);
+            Projected::Refused(why)
+        }
+        Ruling::Answer => {
+            let nodes = head.nodes as usize;
+            // Several cells may keep one node, and none keeps those that stand nowhere: so all bytes are 0
+            // before some are 1.
+            unmark(&mut *out, nodes);
+            mark(&mut *work, v.clear, &mut *out);
             Projected::Marks
         }
     }

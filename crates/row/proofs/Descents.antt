@@ -1,5 +1,5 @@
--- What the descents lean on, turn by turn: the weights, the entries of the row asked for, a descent that begins at the start and one that goes
--- down, where the next one begins, and the end.
+-- What the descents lean on, turn by turn: the weights in the work, a descent that begins at the start and one that goes down, where the next one
+-- begins, and the end.
 use mathlib.Core.Bool.{false, true}
 use mathlib.Core.List.{List}
 use mathlib.Core.Path.{_∙_, _≡_, ap, refl, sym}
@@ -7,68 +7,68 @@ use Prim.Native.Nat.{_<_, _≤_, ℕ}
 use native.Mathlib.Omega.{arith}
 use lib.ListN.{getD, length, take}
 use lib.Seq.{ext-getD, getD-take, length-take-le}
+use Rattle.paper.specs.declared.Head.{Head}
 use Rattle.paper.specs.Questions.{hasPlace}
-use Rattle.paper.specs.Records.{blankEntry}
+use Rattle.paper.specs.Records.{blankEntry, usedOf}
 use Rattle.paper.specs.Row.{Row, blank}
 use Rattle.paper.specs.Sound.{entry}
-use Rattle.sound.specs.Weights.{flagIn, rowsIn}
-use Rattle.sound.proofs.WeightParts.{below-sixteen, flag-in, rows-in}
-use Rattle.row.specs.Descent.{Asked, Record, State, flagAt, lower, lowerFrom, rowsAt}
-use Rattle.row.specs.Descending.{Answerable, Filled, Standing, Starting, rowsOf, sought, soughtRow, usedBy}
-use Rattle.row.proofs.Leading.{Leads, Lists, Shares, blank-at, row-long}
+use Rattle.laws.specs.QuestionCauses.{Sound}
+use Rattle.sound.specs.Face.{Weighs}
+use Rattle.sound.specs.Weights.{flagIn}
+use Rattle.sound.specs.declared.Weighed.the-variants as WeighedIs
+use Rattle.sound.proofs.Answered.{sound-length, sound-room, sound-set, sound-work}
+use Rattle.sound.proofs.Cells.{cell, cell-rows, flag-low, used-length}
+use Rattle.sound.proofs.WeightParts.{flag-in}
+use Rattle.row.specs.Descent.{Record, State, flagAt, lower, lowerFrom, rowsAt}
+use Rattle.row.specs.Descending.{Seeks, Standing, Starting, rowsOf}
+use Rattle.row.proofs.Leading.{Leads, Lists, Shares}
 
-module _ (q : Asked) (table : List Record) (work : List ℕ) (a : Answerable q table work) where
-  used-long : length (usedBy q table) ≡ q .used
-  used-long = length-take-le (q .used) table (a .used-there)
+-- ---- a sound set, whose weights stand in the work
+module _ {h : Head} {table : List Record} {lent work : List ℕ} (W : Weighs h table lent WeighedIs.Sound work) where
+  abbrev used : List Record
+  used = usedOf h table
+
+  pub is-sound : Sound h table
+  is-sound = sound-set W refl
+
+  pub work-long : h .used ≤ length work
+  work-long = omega (arith, sound-length W refl, sound-room W refl)
 
   -- the entry that is read is that of the used records
-  pub entry-read : (i : ℕ) → i < q .used → getD table i blankEntry ≡ entry (usedBy q table) i
-  entry-read i below = sym (getD-take (q .used) table i blankEntry below)
+  pub entry-read : (i : ℕ) → i < h .used → getD table i blankEntry ≡ entry used i
+  entry-read i below = sym (getD-take (h .used) table i blankEntry below)
 
-  -- ---- the weights
-  flag-small : (i : ℕ) → i < q .used → entry (usedBy q table) i .flag < 16
-  flag-small i below = below-sixteen (a .few-places) (a .records i below .flag-below)
+  pub rows-are : (i : ℕ) → i < h .used → rowsAt work i ≡ length (rowsOf (h .arity) used i)
+  rows-are i below = ap (λ (cells : List ℕ). rowsAt cells i) (sound-work W refl) ∙ cell-rows h table is-sound lent i below
 
-  pub rows-are : (i : ℕ) → i < q .used → rowsAt work i ≡ length (rowsOf (q .arity) (usedBy q table) i)
-  rows-are i below =
-      ap rowsIn (a .weights i below) ∙ rows-in (length (rowsOf (q .arity) (usedBy q table) i)) (entry (usedBy q table) i .flag) (flag-small i below)
-
-  pub flag-is : (i : ℕ) → i < q .used → flagAt work i ≡ entry (usedBy q table) i .flag
+  pub flag-is : (i : ℕ) → i < h .used → flagAt work i ≡ entry used i .flag
   flag-is i below =
-      ap flagIn (a .weights i below) ∙ flag-in (length (rowsOf (q .arity) (usedBy q table) i)) (entry (usedBy q table) i .flag) (flag-small i below)
+      ap (λ (cells : List ℕ). flagAt cells i) (sound-work W refl)
+      ∙ ap flagIn (cell h table is-sound lent i below)
+      ∙ flag-in (length (rowsOf (h .arity) used i)) (entry used i .flag) (flag-low h table is-sound i below)
 
-  -- ---- a row that a used record lists, and the one asked for
-  pub lists-at : (i n : ℕ) → i < q .used → n < length (rowsOf (q .arity) (usedBy q table) i) → Lists (q .arity) (a .nodes) (usedBy q table) i n
+  -- a row that a used record lists
+  pub lists-at : (i n : ℕ) → i < h .used → n < length (rowsOf (h .arity) used i) → Lists (h .arity) (h .nodes) used i n
   lists-at i n below number = record {
-    few-nodes = a .few-nodes;
-    sound = λ j h. a .records j (omega (arith, used-long));
-    there = omega (arith, used-long);
+    few-nodes = is-sound .few-nodes;
+    sound = λ j l. is-sound .records j (omega (arith, used-length h table (is-sound .used-there)));
+    there = omega (arith, used-length h table (is-sound .used-there));
     number = number;
   }
 
-  lists-sought : Lists (q .arity) (a .nodes) (usedBy q table) (q .root) (q .number)
-  lists-sought = lists-at (q .root) (q .number) (a .root-used) (a .numbered)
-
-  sought-long : length (soughtRow q table) ≡ q .arity
-  sought-long = row-long lists-sought
-
-  -- it is blank at a fixed place
-  pub sought-blank : (p : ℕ) → p < q .arity → hasPlace (q .open_places) p ≡ false → sought q table p ≡ blank
-  sought-blank p inside e = blank-at lists-sought p inside (ap (λ (b : ℕ). hasPlace b p) (a .root-flag) ∙ e)
-
-module _ (table : List Record) (s : State) where
+module _ {h : Head} {x : Row} {table : List Record} (s : State) where
   -- ---- a descent that begins, and one that goes down
-  pub at-start : Starting table s → s .at ≡ s .start → s .place < 4 → hasPlace (s .asked .open_places) (s .place) ≡ true → Standing table s
+  pub at-start : Starting h x table s → s .at ≡ s .start → s .place < 4 → hasPlace (s .open_places) (s .place) ≡ true → Standing h x table s
   at-start starting here small has-it = record {
     place = small;
     used = omega (arith, starting .used);
     number = rw (here, starting .there here) (starting .number);
     has = rw (here, starting .flag) has-it;
-    same = rw (here, starting .there here) (ap (λ (x : Row). getD x (s .place) blank) (starting .row));
+    same = rw (here, starting .there here) (ap (λ (y : Row). getD y (s .place) blank) (starting .row));
   }
 
-  pub goes-down : (i n j m : ℕ) → Standing table s → Leads (s .asked .arity) (usedBy (s .asked) table) (s .place) (s .at) (s .number) i n
-      → Standing table (lowerFrom s i n j m)
+  pub goes-down : (i n j m : ℕ) → Standing h x table s → Leads (h .arity) (usedOf h table) (s .place) (s .at) (s .number) i n
+      → Standing h x table (lowerFrom s i n j m)
   goes-down i n j m standing leads = record {
     place = standing .place;
     used = omega (arith, leads .lower, standing .used);
@@ -78,7 +78,7 @@ module _ (table : List Record) (s : State) where
   }
 
   -- ---- the start, which stays, or goes down with the descent
-  pub start-stays : (i n : ℕ) → Starting table s → i < s .at → Starting table (lower s i n)
+  pub start-stays : (i n : ℕ) → Starting h x table s → i < s .at → Starting h x table (lower s i n)
   start-stays i n starting below = record {
     used = starting .used;
     flag = starting .flag;
@@ -88,8 +88,8 @@ module _ (table : List Record) (s : State) where
     there = λ e. absurd (omega (arith, starting .below));
   }
 
-  pub start-falls : (i n : ℕ) → Starting table s → s .at ≡ s .start → Shares (s .asked .arity) (usedBy (s .asked) table) (s .at) (s .number) i n
-      → Starting table (lowerFrom s i n i n)
+  pub start-falls : (i n : ℕ) → Starting h x table s → s .at ≡ s .start → Shares (h .arity) (usedOf h table) (s .at) (s .number) i n
+      → Starting h x table (lowerFrom s i n i n)
   start-falls i n starting here shares = record {
     used = omega (arith, shares .lower, starting .used);
     flag = shares .flag ∙ rw here (starting .flag);
@@ -99,13 +99,12 @@ module _ (table : List Record) (s : State) where
     there = λ _. refl;
   }
 
-  -- ---- the end: where no place is left, the row is that asked for
-  pub all-found : (work : List ℕ) → Answerable (s .asked) table work → Filled table s → 4 ≤ s .place
-      → take (s .asked .arity) (s .row) ≡ soughtRow (s .asked) table
-  all-found work a filled all =
-      ext-getD blank (take (s .asked .arity) (s .row)) (soughtRow (s .asked) table) (row-arity ∙ sym (sought-long (s .asked) table work a))
-      (λ p below. getD-take (s .asked .arity) (s .row) p blank (omega (arith, row-arity))
-      ∙ filled .before p (omega (arith, row-arity)) (omega (arith, row-arity, a .few-places)))
+  -- ---- the end: where no place is left, the row is found
+  pub all-found : {work : List ℕ} → Seeks h x table s work → s .going ≡ false → take (h .arity) (s .row) ≡ x
+  all-found k stopped =
+      ext-getD blank (take (h .arity) (s .row)) x (row-arity ∙ sym (k .sought .long))
+      (λ p below. getD-take (h .arity) (s .row) p blank (omega (arith, row-arity))
+      ∙ k .filled .before p (omega (arith, row-arity)) (omega (arith, row-arity, is-sound (k .sought .weighed) .few-places, k .all stopped)))
     where
-      row-arity : length (take (s .asked .arity) (s .row)) ≡ s .asked .arity
-      row-arity = length-take-le (s .asked .arity) (s .row) (omega (arith, filled .long, a .few-places))
+      row-arity : length (take (h .arity) (s .row)) ≡ h .arity
+      row-arity = length-take-le (h .arity) (s .row) (omega (arith, k .filled .long, is-sound (k .sought .weighed) .few-places))

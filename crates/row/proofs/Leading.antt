@@ -8,7 +8,7 @@ use native.Mathlib.Nat.{pow-suc}
 use native.Mathlib.Omega.{arith}
 use borrow.Author.Tests.{eqb-true}
 use lib.Dec.{eqb}
-use lib.ListN.{getD, length, take}
+use lib.ListN.{List·getD-append, getD, length, take}
 use Rattle.paper.specs.Questions.{hasPlace}
 use Rattle.paper.specs.Records.{listings}
 use Rattle.paper.specs.Row.{Row, blank, merge, products, singleRow}
@@ -22,7 +22,7 @@ use Rattle.laws.proofs.SoundRecords.{sound-from-all}
 use Rattle.sound.proofs.RowCounts.{product-count, single-count, union-count}
 use Rattle.row.specs.Descent.{Record}
 use Rattle.row.specs.Descending.{entryOf, rowOf, rowsOf}
-use Rattle.row.proofs.RowNumbers.{Factors, factors, left-row, right-row, row-listed}
+use Rattle.row.proofs.RowNumbers.{Factors, factors, right-row, row-listed}
 
 -- a place of a flag is one of the arity's
 place-below : (k p b : ℕ) → b < 2 ^ k → hasPlace b p ≡ true → p < k
@@ -114,7 +114,7 @@ module _ {arity nodes : ℕ} {used : List Record} {i n : ℕ} (l : Lists arity n
     lower = e .1;
     number = below;
     flag = e .3;
-    row = sym (row-in (union-lists e) ∙ left-row (rowsOf arity used (r .left)) (rowsOf arity used (r .right)) n below);
+    row = sym (row-in (union-lists e) ∙ List·getD-append (rowsOf arity used (r .left)) (rowsOf arity used (r .right)) [] n below);
   }
 
   pub goes-right : IsUnion used i r → length (rowsOf arity used (r .left)) ≤ n

@@ -6,6 +6,5 @@ pub mod Descents
 pub mod Onward
 pub mod StateShape
 pub mod Writing
-pub mod Beginnings
 pub mod Searching
 pub mod Facing

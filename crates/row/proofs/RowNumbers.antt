@@ -1,4 +1,4 @@
--- Rows by their numbers: that a row with a number is listed, the rows of two lists one after the other, and those of a product.
+-- Rows by their numbers: that a row with a number is listed, those of the second of two lists, and those of a product.
 use mathlib.Core.List.{List, [], _++_, _∷_, map}
 use mathlib.Core.Path.{_∙_, _≡_, ap, refl, sym}
 use Prim.Native.Nat.{_%_, _*_, _+_, _-_, _/_, _<_, _≤_, suc, zero, ℕ}
@@ -13,10 +13,7 @@ use Rattle.laws.proofs.Lists.{in-at}
 pub row-listed : (rows : List Row) (n : ℕ) → n < length rows → getD rows n [] ∈ rows
 row-listed rows n h = in-at [] rows n h
 
--- ---- a union's
-pub left-row : (xs ys : List Row) (n : ℕ) → n < length xs → getD (xs ++ ys) n [] ≡ getD xs n []
-left-row xs ys n h = List·getD-append xs ys [] n h
-
+-- ---- a union's right rows
 pub right-row : (xs ys : List Row) (n : ℕ) → length xs ≤ n → getD (xs ++ ys) n [] ≡ getD ys (n - length xs) []
 right-row xs ys n h =
     let sum : n ≡ length xs + (n - length xs) = omega arith in

@@ -10,7 +10,6 @@ pub use Rattle.paper.specs.declared.Record.{Record}
 use Rattle.paper.specs.Questions.{hasPlace}
 use Rattle.paper.specs.Records.{byKind}
 use Rattle.sound.specs.Weights.{flagIn, rowsIn}
-pub use Rattle.row.specs.declared.state.Asked.{Asked}
 pub use Rattle.row.specs.declared.state.State.{State}
 
 -- how many rows record i lists, and its flag, by its weight in the work
@@ -30,7 +29,8 @@ openFrom flag index = openOf flag (4 - index) index
 
 -- the descent goes on at row n of record i, and the next one begins at row m of record j
 abbrev pub lowerFrom : State → ℕ → ℕ → ℕ → ℕ → State
-lowerFrom t i n j m = record { at = i; number = n; start = j; listed = m; place = t .place; row = t .row; asked = t .asked; going = t .going }
+lowerFrom t i n j m =
+    record { at = i; number = n; start = j; listed = m; place = t .place; row = t .row; open_places = t .open_places; going = t .going }
 
 -- the start stays
 abbrev pub lower : State → ℕ → ℕ → State
@@ -43,7 +43,7 @@ beginLower t i n = cond (eqb (t .at) (t .start)) (lowerFrom t i n i n) (lower t 
 -- the node stands at the place, and the next open place is sought from the start
 unfoldable pub placed : State → ℕ → State
 placed t node =
-    let next : ℕ = openFrom (t .asked .open_places) (t .place + 1) in
+    let next : ℕ = openFrom (t .open_places) (t .place + 1) in
     record {
       at = t .start;
       number = t .listed;
@@ -51,7 +51,7 @@ placed t node =
       listed = t .listed;
       place = next;
       row = set (t .row) (t .place) node;
-      asked = t .asked;
+      open_places = t .open_places;
       going = ltb next 4;
     }
 

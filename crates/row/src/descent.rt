@@ -47,7 +47,7 @@ fn place_node(t: State, node: u16) -> State
     let place = t.place;
     let mut s = t;
     s.row[place] = node;
-    s.place = open_from(t.asked.open_places, place + 1);
+    s.place = open_from(t.open_places, place + 1);
     s.at = t.start;
     s.number = t.listed;
     s.going = s.place < MOST_PLACES;

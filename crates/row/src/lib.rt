@@ -6,6 +6,7 @@ ghost use Rattle.row.specs.Face.{Numbers};
 use crate::descent::next;
 use crate::output::finish;
 use crate::start::begin;
+use crate::start::verdict;
 use crate::state::State;
 use paper::Head;
 use paper::Record;
@@ -18,16 +19,16 @@ mod output;
 mod start;
 mod state;
 
-// The row with this number, one entry a place, in the first entries of `out`. They are written at the
-// end, when nothing can refuse any more; `begin` is told the room for them, since 10 is found there.
+// The row with this number, one entry a place, in the first entries of `out`.
 pub fn row(head: Head, table: &[Record], work: &mut [u64], number: u64, out: &mut [u16]) -> Written
     ensures { λ r. ⌜ Numbers head (now (table .entry)) (now (work .entry)) number (now (out .entry)) r (now (work .exit)) (now (out .exit)) ⌝ }
 {
     let w = weigh(head, table, &mut *work);
     let room = out.len();
-    let s = begin(w, head, &mut *work, number, room);
+    let v = verdict(w, head, &*work, number, room);
+    let s = begin(v, head, number);
     let e = drive(table, s, &mut *work);
-    finish(e, &mut *work, &mut *out)
+    finish(e, v, head, &mut *work, &mut *out)
 }
 
 // All descents, one record a turn. It ends, since in a descent each record is lower than the one

@@ -1,12 +1,16 @@
-// The end of the search for a row: the row goes into the lent output, and the work is cleared.
+// The end of the search for a row: the cleared work, and the row in the lent output, unless the
+// question is refused.
 ghost use mathlib.Core.Path.{_≡_};
 ghost use Prim.Native.Nat.{_≤_};
 ghost use lib.ListN.{length, take};
 ghost use Rattle.paper.specs.Refusals.{over};
 ghost use Rattle.row.specs.Output.{Writable, Finishes};
 use crate::state::State;
+use paper::Head;
 use paper::Written;
 use paper::limits::MOST_PLACES;
+use sound::Ruling;
+use sound::Verdict;
 use sound::clear;
 
 // The row's first entries, one a place. The output may be longer: what is behind them stays.
@@ -22,15 +26,19 @@ fn write(row: [u16; MOST_PLACES], arity: usize, out: &mut [u16])
     }
 }
 
-// The answer, the row and the cleared work. Of a refusal the arity is 0, and so the same lines leave
-// the output alone.
-pub(crate) fn finish(e: State, work: &mut [u64], out: &mut [u16]) -> Written
-    requires { ⌜ Writable e (now out) ⌝ }
-    ensures { λ r. ⌜ Finishes e (now (work .entry)) (now (out .entry)) r (now (work .exit)) (now (out .exit)) ⌝ }
+// The answer by the verdict: a refusal leaves the output alone.
+pub(crate) fn finish(e: State, v: Verdict, head: Head, work: &mut [u64], out: &mut [u16]) -> Written
+    requires { ⌜ Writable v head (now out) ⌝ }
+    ensures { λ r. ⌜ Finishes e v head (now (work .entry)) (now (out .entry)) r (now (work .exit)) (now (out .exit)) ⌝ }
 {
-    let asked = e.asked;
-    let row = e.row;
-    clear(&mut *work, asked.used);
-    write(row, asked.arity, &mut *out);
-    asked.answer
+    clear(&mut *work, v.clear);
+    let ruling = v.ruling;
+    match ruling {
+        Ruling::Refused(why) => Written::Refused(why),
+        Ruling::Answer => {
+            let row = e.row;
+            write(row, head.arity as usize, &mut *out);
+            Written::Row
+        }
+    }
 }

@@ -2,10 +2,9 @@
 -- the others are left, and the work has the weights; where it says no, the question's reply is that refusal, and the work is left as it says.
 use mathlib.Core.List.{List, _++_}
 use mathlib.Core.Path.{_∙_, _≡_, ap, sym}
-use Prim.Native.Nat.{_≤_, min, ℕ}
-use native.Mathlib.Omega.{arith}
+use Prim.Native.Nat.{_≤_, ℕ}
 use borrow.Author.Tests.{leb-true}
-use lib.ListN.{drop, length, replicate}
+use lib.ListN.{drop, length}
 use Rattle.paper.specs.declared.Head.{Head}
 use Rattle.paper.specs.declared.Record.{Record}
 use Rattle.paper.specs.declared.Refusal.{Refusal}
@@ -19,7 +18,6 @@ use Rattle.sound.specs.Face.{Weighs}
 use Rattle.sound.specs.Weights.{Weighed, saysWeighed, weighedWork, weighing, weights}
 use Rattle.sound.specs.declared.Weighed.the-variants.{Refused, Sound}
 use Rattle.sound.proofs.Cells.{behind-cells, weighed-length}
-use Rattle.sound.proofs.Overwriting.{cleared-all, cleared-same}
 
 module _ {h : Head} {table : List Record} {work work′ : List ℕ} {r : Weighed} (W : Weighs h table work r work′) where
   abbrev tests : List Test
@@ -46,16 +44,8 @@ module _ {h : Head} {table : List Record} {work work′ : List ℕ} {r : Weighed
     pub sound-behind : drop (h .used) work′ ≡ drop (h .used) work
     sound-behind = ap (drop (h .used)) sound-work ∙ behind-cells h table sound-set work
 
-    -- and they are cleared with the rest
-    pub sound-cleared : over (replicate (h .used) 0) work′ ≡ over (replicate (h .used) 0) work
-    sound-cleared = cleared-same (h .used) work work′ sound-behind
-
     pub sound-length : length work′ ≡ length work
     sound-length = ap length sound-work ∙ weighed-length h table sound-set work sound-room
-
-    -- what `clear` leaves
-    pub sound-clears : over (replicate (min (h .used) (length work′)) 0) work′ ≡ over (replicate (h .used) 0) work
-    sound-clears = cleared-all (h .used) work′ (omega (arith, sound-room, sound-length)) ∙ sound-cleared
 
     pub sound-reply : {A : Type 0} (more : List Test) (a : A) → unless (tests ++ more) a ≡ unless more a
     sound-reply more a = unless-append tests more a sound-passes

@@ -10,6 +10,6 @@ pub mod StateShape
 pub mod Cells
 pub mod Facing
 pub mod Heads
-pub mod Weighing
 pub mod Answered
+pub mod Replying
 pub mod Counting

@@ -1,26 +1,26 @@
 // The end of `count`: the rows of the set, by the weights that `weigh` has left, and the cleared
 // work.
 ghost use Rattle.sound.specs.Counting.{Finishes};
+use crate::Ruling;
 use crate::Weighed;
 use crate::clear;
+use crate::rule;
 use crate::set_rows;
 use paper::Counted;
 use paper::Head;
 
-// The answer, and the work cleared; or the refusal.
+// The answer, or the refusal, and the work cleared. `count` has no tests of its own. The rows stand in
+// the work, so they are read before it is cleared; of a set that is not sound they are never told.
 pub(crate) fn finish(w: Weighed, head: Head, work: &mut [u64]) -> Counted
     ensures { λ r. ⌜ Finishes w head (now (work .entry)) r (now (work .exit)) ⌝ }
 {
-    match w {
-        // `weigh` has left the work as a refusal leaves it.
-        Weighed::Refused(why) => Counted::Refused(why),
-        Weighed::Sound => {
-            let set = head.set;
-            let used = head.used as usize;
-            // The rows stand in the work, so they are read before it is cleared.
-            let rows = set_rows(set, &*work);
-            clear(&mut *work, used);
-            Counted::Rows(rows)
-        }
+    let v = rule(w, Ruling::Answer, head.used);
+    let set = head.set;
+    let rows = set_rows(set, &*work);
+    clear(&mut *work, v.clear);
+    let ruling = v.ruling;
+    match ruling {
+        Ruling::Refused(why) => Counted::Refused(why),
+        Ruling::Answer => Counted::Rows(rows),
     }
 }

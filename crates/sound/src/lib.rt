@@ -24,11 +24,17 @@ mod counted;
 mod head;
 mod record;
 mod state;
+mod verdict;
 mod weight;
 
 // How a weight is read is for the questions too.
 pub use weight::flag_in;
 pub use weight::rows_in;
+
+// So is the verdict.
+pub use verdict::Ruling;
+pub use verdict::Verdict;
+pub use verdict::rule;
 
 // What `weigh` found. Where the set is sound, the work has the weights of its used records.
 pub enum Weighed {

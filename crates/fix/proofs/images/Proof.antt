@@ -1,240 +1,174 @@
 -- `fix::images` meets its contract: an instance of the law of a loop that asks (`walks`). What stands here is of plain values.
 -- Assumes nothing.
-use mathlib.Core.Bool.{Bool, cond, false, true, true≢false}
+use mathlib.Core.Bool.{Bool, _||_, cond, false, true, true≢false}
 use mathlib.Core.List.{List}
 use mathlib.Core.Logic.{⊎-elim}
 use mathlib.Core.Path.{_∙_, _≡_, ap, refl, subst, subst₂, sym}
 use Prim.Native.Nat.{_+_, _-_, _<_, suc, ℕ}
+use native.Mathlib.Numerals.{add-one}
 use native.Mathlib.Omega.{arith}
-use borrow.Author.Tests.{ltb-false, ltb-true}
-use lib.Dec.{ltb}
-use lib.ListN.{drop, getD, length, set}
+use lib.ListN.{drop, getD, length-set, set, take}
 use lib.Seq.{drop-set-lt, getD-set-other, getD-set-same}
 use mir.Syntax.{tyInt, w64}
-use contract.Running.{givenOf, tables, tablesOf}
+use contract.Running.{tablesOf}
 use denote.Builtin.{u64}
-use denote.Triple.Spec.{tripleOf}
-use denote.Triple.Table.{cited, entered}
+use denote.Triple.Table.{cited}
 use Rattle.laws.proofs.Lists.{which}
 use Rattle.laws.proofs.Shaped.{last-or}
+use Rattle.paper.specs.Questions.{unitTwice}
 use Rattle.paper.specs.Sound.{entry}
-use Rattle.walks.proofs.Asking.{Law, Next, asking-meets}
+use Rattle.walks.proofs.Asking.{Law, asks-all}
 use Rattle.table.proofs.Sets.{number-set}
 use Rattle.fix.specs.Sets.{Image, Makes, Record, empty, newIn, setNumber}
-use Rattle.fix.specs.States.{State, passed, started, stopped}
+use Rattle.fix.specs.States.{State, passed, stopped}
 use Rattle.fix.specs.Turns.{Imaged, Turning, imageAt, twiceIn}
-use Rattle.fix.specs.Passes.{Fitting, ImagesDone, ImagesFound, MayImage, Twice, imagesTo}
-use Rattle.fix.proofs.ImageSteps.{image-stays}
+use Rattle.fix.specs.Passes.{ImagesDone, Ready, imagesTo}
+use Rattle.fix.proofs.ImageSteps.{image-stays, twice-next, twice-stays, twiceAt}
 use Rattle.fix.proofs.Making.{length-new}
-use Rattle.fix.proofs.OneRecord.{HasImages, Standing, first-at, first-going, is-twice, next-image, next-records, stands-first, stands-next, turning, twice-is}
+use Rattle.fix.proofs.OneRecord.{HasImages, Standing, all-passed, below, first-at, left, next-image, next-records, not-stopped}
+use Rattle.fix.proofs.OneRecord.{running, stands-first, stands-next, turning, twice-is}
 use Rattle.fix.proofs.StateShape.{at-field, shape}
-use Rattle.fix.proofs.turn.image_turn.Symbol as turn-def
-use Rattle.fix.proofs.turn.image_turn.Symbol.{name as #image-turn}
-use Rattle.fix.proofs.turn.image_turn.Met as turn-thm
-use Rattle.fix.proofs.images.Key.{name as #images}
+use Rattle.fix.proofs.turn.image_turn as turn
 use Rattle.fix.proofs.images as images
 use Rattle.fix.proofs.images.Statement as stated
 use Rattle.fix.proofs.images.Code as code
 
 -- ---- before each turn
--- the images of the records passed stand in the work, and no union of them has unit twice; or the pass has stopped at one that has
+-- whether one of the first k records is a union of unit and unit
+abbrev twiceTo : List Record → State → ℕ → Bool
+twiceTo source s k = unitTwice (imagesTo s source (s .used)) (take k source)
+
+-- none of the records passed is; or the pass has stopped at one that is
 record SoFar (source : List Record) (s : State) (first : List ℕ) (t : State) (work : List ℕ) : Type 0 where
-  fit : Fitting source s first
-  stand : Standing source s t
-  has : HasImages source s (t .at) work
+  stand : Standing source s t work
   rest : drop (s .used) work ≡ drop (s .used) first
-  none : (k : ℕ) → k < t .at → Twice source s k → ⊥
-  goes : t .refused ≡ false → t .going ≡ ltb (t .at) (s .used)
-  stops : t .refused ≡ true → (t .going ≡ false) × ((k : ℕ) × Twice source s k)
+  none : twiceTo source s (t .at) ≡ false
+  stops : t .twice ≡ true → twiceTo source s (s .used) ≡ true
 
--- a pass that is refused at once does nothing
-record Before (source : List Record) (s : State) (first : List ℕ) (t : State) (work : List ℕ) : Type 0 where
-  idle : s .refused ≡ true → (t ≡ s) × (work ≡ first) × (t .going ≡ false)
-  live : s .refused ≡ false → SoFar source s first t work
+starts : (source : List Record) (s : State) (work : List ℕ) → Ready source s work → SoFar source s work s work
+starts source s work ready = record {
+  stand = stands-first ready;
+  rest = refl;
+  none = ap (twiceTo source s) (first-at ready);
+  stops = λ f. absurd (true≢false (sym f ∙ not-stopped ready));
+}
 
-starts : (source : List Record) (s : State) (work : List ℕ) → MayImage source s work → Before source s work s work
-starts source s work may = record { idle = λ e. (refl, refl, may .idle e); live = λ e. from-first (may .fresh e .0) (may .fresh e .1) }
-  where
-    from-first : s ≡ started (s .used) (s .place) (s .node) → Fitting source s work → SoFar source s work s work
-    from-first e fit = record {
-      fit = fit;
-      stand = stands-first source s e;
-      has = λ i l. absurd (omega (arith, l, first-at source s e));
-      rest = refl;
-      none = λ k l. absurd (omega (arith, l, first-at source s e));
-      goes = λ _. first-going source s e;
-      stops = λ f. absurd (true≢false (sym f ∙ ap (λ (x : State). x .refused) e));
-    }
-
--- a state that goes on is not refused, and a record is left
-module _ (source : List Record) (s : State) (first : List ℕ) (t : State) (work : List ℕ) (before : Before source s first t work)
-    (going : t .going ≡ true) where
-  live : SoFar source s first t work
-  live = ⊎-elim (λ e. absurd (true≢false (sym going ∙ before .idle e .2))) (before .live) (which (s .refused))
-
-  running : t .refused ≡ false
-  running = ⊎-elim (λ e. absurd (true≢false (sym going ∙ live .stops e .0))) (λ e. e) (which (t .refused))
-
-  left : t .at < s .used
-  left = ltb-true (t .at) (s .used) (sym (live .goes running) ∙ going)
-
-  module _ (long : length work ≡ length first) where
-    asks : (t .at < length source) × Turning t (entry source (t .at)) work
-    asks = (omega (arith, left, live .fit .there), turning source s t first work (live .fit) long (live .stand) (live .has) left)
-
-    -- ---- after it
-    abbrev r : Record
-    r = entry source (t .at)
-
-    -- it stops at a union that has unit twice
-    halted : twiceIn r work ≡ true → SoFar source s first (stopped t) work
-    halted e = record {
-      fit = live .fit;
-      stand = record {
-        used = live .stand .used;
-        place = live .stand .place;
-        node = live .stand .node;
-        refusal = live .stand .refusal;
-        at-most = live .stand .at-most;
-        made = live .stand .made;
-      };
-      has = live .has;
-      rest = live .rest;
-      none = live .none;
-      goes = λ f. absurd (true≢false f);
-      stops = λ _. (refl, (t .at, is-twice source s t first work (live .fit) long (live .stand) (live .has) left e));
-    }
-
-    -- or has one image more
-    module _ (x : Image) (makes : Makes (imageAt t r work) (t .made) x) where
-      abbrev work′ : List ℕ
-      work′ = set work (t .at) (x .set)
-
-      has-next : HasImages source s (t .at + 1) work′
-      has-next i l = ⊎-elim old (λ e. subst Has (sym e) new) (last-or i (t .at) l)
-        where
-          Has : ℕ → Type 0
-          Has j = getD work′ j 0 ≡ setNumber (getD (imagesTo s source (t .at + 1)) j empty)
-
-          old : i < t .at → Has i
-          old below =
-              getD-set-other work (t .at) i (x .set) 0 (λ e. omega (arith, e, below))
-              ∙ live .has i below
-              ∙ ap setNumber (sym (image-stays (s .place - 1) (s .node) source (t .at + 1) (t .at) i (omega arith)
-              (omega (arith, left, live .fit .there)) below))
-
-          new : Has (t .at)
-          new =
-              getD-set-same work (t .at) (x .set) 0 (omega (arith, left, live .fit .room, long))
-              ∙ sym (number-set (x .set))
-              ∙ ap setNumber (sym (next-image source s t first work (live .fit) long (live .stand) (live .has) left x makes))
-
-      onward : twiceIn r work ≡ false → SoFar source s first (passed t (x .count)) work′
-      onward e = record {
-        fit = live .fit;
-        stand =
-            stands-next source s t first work (live .fit) long (live .stand) (live .has) left (x .count) (newIn x) (length-new x (makes .few))
-            (next-records source s t first work (live .fit) long (live .stand) (live .has) left x makes);
-        has = has-next;
-        rest = drop-set-lt (s .used) work (t .at) (x .set) left ∙ live .rest;
-        none = λ k l. ⊎-elim (live .none k) (λ same u. true≢false (sym (again (subst (Twice source s) same u)) ∙ e)) (last-or k (t .at) l);
-        goes = λ _. ap (ltb (t .at + 1)) (live .stand .used);
-        stops = λ f. absurd (true≢false (sym f ∙ running));
-      }
-        where
-          again : Twice source s (t .at) → twiceIn r work ≡ true
-          again = twice-is source s t first work (live .fit) long (live .stand) (live .has) left
-
--- what falls: the records left, and one more while the pass goes on
+-- what falls: the records left, and one more until the pass has stopped
 abbrev turnsLeft : State → ℕ
-turnsLeft t = cond (t .going) (suc (t .used - t .at)) 0
+turnsLeft t = cond (t .twice) 0 (suc (t .used - t .at))
 
-fewer : (t : State) (count : ℕ) → t .going ≡ true → t .at < t .used → turnsLeft (passed t count) < turnsLeft t
-fewer t count e l = rw e (go (ltb (t .at + 1) (t .used)))
-  where
-    go : (c : Bool) → cond c (suc (t .used - (t .at + 1))) 0 < suc (t .used - t .at)
-    go true = omega arith
-    go false = omega arith
+-- ---- after it
+module _ (source : List Record) (s : State) (first : List ℕ) (t : State) (work : List ℕ) (now : SoFar source s first t work)
+    (going : t .going ≡ true) where
+  abbrev r : Record
+  r = entry source (t .at)
 
-none-left : (t : State) → t .going ≡ true → turnsLeft (stopped t) < turnsLeft t
-none-left t e = rw e (omega arith)
+  here : t .at < s .used
+  here = left (now .stand) going
 
-step : (source : List Record) (s : State) (first : List ℕ) (t : State) (work : List ℕ) → Before source s first t work → t .going ≡ true
-    → length work ≡ length first → (t′ : State) (work′ : List ℕ) → Imaged t (entry source (t .at)) work t′ work′
-    → Before source s first t′ work′ × (turnsLeft t′ < turnsLeft t)
-step source s first t work before going long t′ work′ told = ⊎-elim halts goes (which (twiceIn (entry source (t .at)) work))
-  where
-    now : SoFar source s first t work
-    now = live source s first t work before going
+  -- with this record
+  one-more : twiceTo source s (t .at + 1) ≡ twiceIn r work
+  one-more =
+      ap (twiceTo source s) (add-one (t .at))
+      ∙ twice-next (imagesTo s source (s .used)) source (t .at) (below (now .stand) going)
+      ∙ ap (λ (c : Bool). c || twiceAt (imagesTo s source (s .used)) r) (now .none)
+      ∙ sym (twice-is (now .stand) going)
 
-    left′ : t .at < t .used
-    left′ = omega (arith, left source s first t work before going, now .stand .used)
+  abbrev After : State → List ℕ → Type 0
+  After u w = SoFar source s first u w × (turnsLeft u < turnsLeft t)
 
-    -- the pass was not refused at first
-    begun : s .refused ≡ false
-    begun = ⊎-elim (λ e. absurd (true≢false (sym going ∙ before .idle e .2))) (λ e. e) (which (s .refused))
+  -- it stops at a union that has unit twice
+  halted : twiceIn r work ≡ true → After (stopped t) work
+  halted e = (
+    record {
+      stand = record {
+        fit = now .stand .fit;
+        used = now .stand .used;
+        place = now .stand .place;
+        node = now .stand .node;
+        at-most = now .stand .at-most;
+        made = now .stand .made;
+        has = now .stand .has;
+        goes = refl;
+      };
+      rest = now .rest;
+      none = now .none;
+      stops = λ _. twice-stays (imagesTo s source (s .used)) source (s .used) (t .at + 1) (omega (arith, here)) (one-more ∙ e);
+    },
+    rw (running (now .stand) going) (omega arith),
+  )
 
-    Next : State → List ℕ → Type 0
-    Next u w = Before source s first u w × (turnsLeft u < turnsLeft t)
+  -- or has one image more
+  module _ (x : Image) (makes : Makes (imageAt t r work) (t .made) x) where
+    abbrev work′ : List ℕ
+    work′ = set work (t .at) (x .set)
 
-    come : {u : State} {w : List ℕ} → SoFar source s first u w → Before source s first u w
-    come so-far = record { idle = λ e. absurd (true≢false (sym e ∙ begun)); live = λ _. so-far }
+    has-next : HasImages source s (t .at + 1) work′
+    has-next i l = ⊎-elim old (λ e. subst Has (sym e) new) (last-or i (t .at) l)
+      where
+        Has : ℕ → Type 0
+        Has j = getD work′ j 0 ≡ setNumber (getD (imagesTo s source (t .at + 1)) j empty)
 
-    halts : twiceIn (entry source (t .at)) work ≡ true → Next t′ work′
-    halts e =
-        subst₂ Next (sym (told .stops e .0)) (sym (told .stops e .1))
-        (come (halted source s first t work before going long e), none-left t going)
+        old : i < t .at → Has i
+        old before =
+            getD-set-other work (t .at) i (x .set) 0 (λ e. omega (arith, e, before))
+            ∙ now .stand .has i before
+            ∙ ap setNumber (sym (image-stays (s .place - 1) (s .node) source (t .at + 1) (t .at) i (omega arith)
+            (omega (arith, here, now .stand .fit .there)) before))
 
-    goes : twiceIn (entry source (t .at)) work ≡ false → Next t′ work′
-    goes e =
-        let turn = told .goes e in
-        subst₂ Next (sym (turn .state)) (sym (turn .written))
-        (come (onward source s first t work before going long (turn .image) (turn .makes) e), fewer t (turn .image .count) going left′)
+        new : Has (t .at)
+        new =
+            getD-set-same work (t .at) (x .set) 0 (omega (arith, here, now .stand .fit .room))
+            ∙ sym (number-set (x .set))
+            ∙ ap setNumber (sym (next-image (now .stand) going x makes))
+
+    onward : twiceIn r work ≡ false → After (passed t (x .count)) work′
+    onward e = (
+      record {
+        stand =
+            stands-next (now .stand) going (x .count) (newIn x) (length-new x (makes .few))
+            (next-records (now .stand) going x makes) work′ (length-set work (t .at) (x .set)) has-next;
+        rest = drop-set-lt (s .used) work (t .at) (x .set) here ∙ now .rest;
+        none = one-more ∙ e;
+        stops = λ f. absurd (true≢false (sym f ∙ running (now .stand) going));
+      },
+      rw (running (now .stand) going) (omega (arith, here, now .stand .used)),
+    )
+
+  step : (t′ : State) (work′ : List ℕ) → Imaged t r work t′ work′ → After t′ work′
+  step t′ work′ told = ⊎-elim
+      (λ e. subst₂ After (sym (told .stops e .0)) (sym (told .stops e .1)) (halted e))
+      (λ e. let turn = told .goes e in subst₂ After (sym (turn .state)) (sym (turn .written)) (onward (turn .image) (turn .makes) e))
+      (which (twiceIn r work))
 
 -- ---- the whole pass
-stops : (source : List Record) (s : State) (first : List ℕ) (t : State) (work : List ℕ) → Before source s first t work → t .going ≡ false
+stops : (source : List Record) (s : State) (first : List ℕ) (t : State) (work : List ℕ) → SoFar source s first t work → t .going ≡ false
     → ImagesDone source s first t work
-stops source s first t work before ended = record { idle = λ e. (before .idle e .0, before .idle e .1); done = λ e. all (before .live e) }
+stops source s first t work now ended = record {
+  rest = now .rest;
+  twice = ⊎-elim (λ e. e ∙ sym (now .stops e)) (λ e. e ∙ sym (now .none) ∙ ap (twiceTo source s) (last e)) (which (t .twice));
+  found = λ e. subst (λ (k : ℕ). HasImages source s k work) (last e) (now .stand .has);
+}
   where
-    all : SoFar source s first t work → ImagesFound source s first t work
-    all now = record {
-      stopped = ended;
-      used = now .stand .used;
-      place = now .stand .place;
-      node = now .stand .node;
-      refusal = now .stand .refusal;
-      rest = now .rest;
-      twice = λ e. now .stops e .1;
-      found = λ e. (
-        subst (λ (k : ℕ). HasImages source s k work) (last e) (now .has),
-        λ k u. now .none k (omega (arith, last e, u .used)) u,
-      );
-    }
-      where
-        last : t .refused ≡ false → t .at ≡ s .used
-        last e = omega (arith, now .stand .at-most, ltb-false (t .at) (s .used) (sym (now .goes e) ∙ ended))
+    last : t .twice ≡ false → t .at ≡ s .used
+    last = all-passed (now .stand) ended
 
 abbrev law : Law u64 shape at-field
 law = record {
   Ask = λ t r w. Turning t r w;
   Tell = λ t r w t′ w′. Imaged t r w t′ w′;
-  Ready = λ source x. MayImage source (x .state) (x .work);
+  Ready = λ source x. Ready source (x .state) (x .work);
   Asked = λ source x y. ImagesDone source (x .state) (x .work) (y .state) (y .work);
-  Before = λ source x₀ x. Before source (x₀ .state) (x₀ .work) (x .state) (x .work);
+  Before = λ source x₀ x. SoFar source (x₀ .state) (x₀ .work) (x .state) (x .work);
   falls = λ x. turnsLeft (x .state);
   starts = λ source x. starts source (x .state) (x .work);
-  asks = λ source x₀ x long before going. asks source (x₀ .state) (x₀ .work) (x .state) (x .work) before going long;
-  onward = λ source x₀ x y long _ before going told.
-      step source (x₀ .state) (x₀ .work) (x .state) (x .work) before going long (y .state) (y .work) told;
+  asks = λ source x₀ x long now going. (below (now .stand) going, turning (now .stand) going);
+  onward = λ source x₀ x y long _ now going told. step source (x₀ .state) (x₀ .work) (x .state) (x .work) now going (y .state) (y .work) told;
   stops = λ source x₀ x. stops source (x₀ .state) (x₀ .work) (x .state) (x .work);
 }
 
 pub images-spec : {M : Type 1} → stated.statement M
 unfolding code.routine tablesOf
 images-spec 𝓤 H 𝓜 𝓖 𝓡 =
-    entered 𝓤 H (tripleOf 𝓤 H (𝓖 .A) images.signature (images.spec 𝓤 H (𝓖 .A) (𝓜 .mem) (𝓡 .run)))
-    (tables 𝓤 H 𝓜 𝓡 code.env .C) (tables 𝓤 H 𝓜 𝓡 code.env .Λ) #images code.function (code.unfolded 𝓤 H 𝓜 𝓡)
-    (asking-meets u64 shape at-field law 𝓤 H (𝓖 .A) (givenOf 𝓤 H 𝓜 𝓖) (tyInt w64) #image-turn
-    (tablesOf 𝓤 H 𝓜 (tables 𝓤 H 𝓜 𝓡 code.env))
-    (cited 𝓤 H (Next u64 shape at-field law 𝓤 H (𝓖 .A)) 𝓜 𝓡 code.env #image-turn turn-def.routine
-    code.calls-fix·turn·image-turn (turn-thm.met 𝓤 H 𝓜 𝓖 𝓡)))
+    asks-all u64 shape at-field law 𝓤 H 𝓜 𝓖 𝓡 (tyInt w64) code.env images.Key.name turn.Symbol.name (code.unfolded 𝓤 H 𝓜 𝓡)
+    (cited 𝓤 H _ 𝓜 𝓡 code.env turn.Symbol.name turn.Symbol.routine code.calls-fix·turn·image-turn (turn.Met.met 𝓤 H 𝓜 𝓖 𝓡))

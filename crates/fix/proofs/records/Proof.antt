@@ -1,14 +1,14 @@
 -- `fix::records` meets its contract: an instance of the law of a loop that copies (`walks`). What stands here is of plain values.
 -- Assumes nothing.
-use mathlib.Core.Bool.{false, true, true≢false}
+use mathlib.Core.Bool.{false, true}
 use mathlib.Core.List.{List, _++_, append-nil}
 use mathlib.Core.Logic.{⊎-elim}
 use mathlib.Core.Path.{_∙_, _≡_, ap, refl, subst, sym}
 use Prim.Native.Nat.{_+_, _-_, _<_, _≤_, suc, ℕ}
 use native.Mathlib.Numerals.{add-one}
 use native.Mathlib.Omega.{arith}
-use borrow.Author.Tests.{eqb-false, eqb-true, ltb-false, ltb-true}
-use lib.Dec.{eqb, ltb}
+use borrow.Author.Tests.{eqb-false, eqb-true}
+use lib.Dec.{eqb}
 use lib.ListN.{getD, length}
 use mir.Syntax.{tyInt, w64}
 use contract.Running.{givenOf, tables, tablesOf}
@@ -27,10 +27,11 @@ use Rattle.walks.proofs.Copying.{Hand, Law, Next, Store, copying-meets, turned}
 use Rattle.fix.specs.Sets.{Record, setNumber}
 use Rattle.fix.specs.States.{State, passed}
 use Rattle.fix.specs.Turns.{Recorded, Turning, Writes}
-use Rattle.fix.specs.Passes.{Fitting, MayRecord, Numbered, RecordsDone, RecordsMade, newRecords}
+use Rattle.fix.specs.Passes.{MayRecord, RecordsDone, newRecords}
 use Rattle.fix.proofs.Behind.{batch-is, stored-behind}
 use Rattle.fix.proofs.ImageSteps.{few-records, image-stays, none-new}
-use Rattle.fix.proofs.OneRecord.{HasImages, Standing, first-at, first-going, next-records, stands-first, stands-next, turning}
+use Rattle.fix.proofs.OneRecord.{HasImages, Standing, all-passed, below, first-at, left, next-records, not-stopped}
+use Rattle.fix.proofs.OneRecord.{stands-first, stands-next, turning}
 use Rattle.fix.proofs.StateShape.{at-field, count-field, from-field, shape}
 use Rattle.fix.proofs.turn.record_turn.Symbol as turn-def
 use Rattle.fix.proofs.turn.record_turn.Symbol.{name as #record-turn}
@@ -46,73 +47,39 @@ Held = Hand u64 shape
 -- ---- before each turn
 -- the new records of those passed are the target's first ones
 record SoFar (source : List Record) (x₀ x : Held) : Type 0 where
-  fit : Fitting source (x₀ .state) (x₀ .work)
-  stand : Standing source (x₀ .state) (x .state)
-  numbered : Numbered source (x₀ .state) (x₀ .work)
-  entries : x₀ .state .used ≤ length (x₀ .table)
-  refused : x .state .refused ≡ false
-  going : x .state .going ≡ ltb (x .state .at) (x₀ .state .used)
+  asked : MayRecord source (x₀ .state) (x₀ .work) (x₀ .table) (x₀ .batch)
+  stand : Standing source (x₀ .state) (x .state) (x .work)
+  twice : x .state .twice ≡ false
+  kept : x .work ≡ x₀ .work
   written : x .table ≡ over (newRecords (x₀ .state) source (x .state .at)) (x₀ .table)
 
--- a pass that is refused does nothing
-record Before (source : List Record) (x₀ x : Held) : Type 0 where
-  numbers : recordNumbers ≤ length (x₀ .batch)
-  kept : x .work ≡ x₀ .work
-  idle : x₀ .state .refused ≡ true → (x .state ≡ x₀ .state) × (x .table ≡ x₀ .table) × (x .state .going ≡ false)
-  live : x₀ .state .refused ≡ false → SoFar source x₀ x
-
-starts : (source : List Record) (x : Held) → MayRecord source (x .state) (x .work) (x .table) (x .batch) → Before source x x
+starts : (source : List Record) (x : Held) → MayRecord source (x .state) (x .work) (x .table) (x .batch) → SoFar source x x
 starts source x may = record {
-  numbers = may .numbers;
+  asked = may;
+  stand = stands-first (may .ready);
+  twice = not-stopped (may .ready);
   kept = refl;
-  idle = λ e. (refl, refl, may .idle e);
-  live = λ e. let fresh = may .fresh e .0 in record {
-    fit = may .fresh e .1;
-    stand = stands-first source (x .state) fresh;
-    numbered = may .numbered e;
-    entries = may .entries e;
-    refused = e;
-    going = first-going source (x .state) fresh;
-    written = ap (λ (k : ℕ). over (newRecords (x .state) source k) (x .table)) (sym (first-at source (x .state) fresh));
-  };
+  written = ap (λ (k : ℕ). over (newRecords (x .state) source k) (x .table)) (sym (first-at (may .ready)));
 }
 
--- a state that goes on is not refused, and a record is left
-module _ (source : List Record) (x₀ x : Held) (before : Before source x₀ x) (going : x .state .going ≡ true) where
+module _ (source : List Record) (x₀ x : Held) (now : SoFar source x₀ x) (going : x .state .going ≡ true) where
   abbrev s : State
   s = x₀ .state
 
   abbrev t : State
   t = x .state
 
-  begun : s .refused ≡ false
-  begun = ⊎-elim (λ e. absurd (true≢false (sym going ∙ before .idle e .2))) (λ e. e) (which (s .refused))
+  here : t .at < s .used
+  here = left (now .stand) going
 
-  live : SoFar source x₀ x
-  live = before .live begun
-
-  left : t .at < s .used
-  left = ltb-true (t .at) (s .used) (sym (live .going) ∙ going)
+  there : t .at < length source
+  there = below (now .stand) going
 
   -- the images of the first k records are those of the whole pass
-  has-to : (k : ℕ) → k ≤ s .used → HasImages source s k (x .work)
+  has-to : (k : ℕ) → k ≤ s .used → HasImages source s k (x₀ .work)
   has-to k most i l =
-      ap (λ (w : List ℕ). getD w i 0) (before .kept)
-      ∙ live .numbered i (omega (arith, l, most))
-      ∙ ap setNumber (image-stays (s .place - 1) (s .node) source (s .used) k i most (live .fit .there) l)
-
-  has : HasImages source s (t .at) (x .work)
-  has = has-to (t .at) (omega (arith, left))
-
-  asks : length (x .batch) ≡ length (x₀ .batch)
-      → (t .at < length source) × (Turning t (entry source (t .at)) (x .work) × (recordNumbers ≤ length (x .batch)))
-  asks long = (
-    omega (arith, left, live .fit .there),
-    (
-      turning source s t (x₀ .work) (x .work) (live .fit) (ap length (before .kept)) (live .stand) has left,
-      omega (arith, before .numbers, long),
-    ),
-  )
+      now .asked .numbered i (omega (arith, l, most))
+      ∙ ap setNumber (image-stays (s .place - 1) (s .node) source (s .used) k i most (now .stand .fit .there) l)
 
   -- ---- after it
   -- the batch has the new records of the turn, of which there are so many
@@ -136,8 +103,9 @@ module _ (source : List Record) (x₀ x : Held) (before : Before source x₀ x) 
         same : newRecords s source (t .at + 1) ≡ newRecords s source (t .at)
         same =
             ap (newRecords s source) (add-one (t .at))
-            ∙ none-new (s .place - 1) (s .node) source (t .at) (omega (arith, left, live .fit .there))
-            (λ e. other (omega (arith, has-to (suc (t .at)) (omega (arith, left)) (t .at) (omega arith), e, live .stand .made)))
+            ∙ none-new (s .place - 1) (s .node) source (t .at) there
+            (λ e. other (ap (λ (w : List ℕ). getD w (t .at) 0) (now .kept)
+            ∙ omega (arith, has-to (suc (t .at)) (omega (arith, here)) (t .at) (omega arith), e, now .stand .made)))
 
     writes : Writes t (entry source (t .at)) (x .work) t′ batch′ → Adding t′ batch′
     writes one = record {
@@ -145,7 +113,7 @@ module _ (source : List Record) (x₀ x : Held) (before : Before source x₀ x) 
       few = one .makes .few;
       state = one .state;
       grown =
-          next-records source s t (x₀ .work) (x .work) (live .fit) (ap length (before .kept)) (live .stand) has left (one .image) (one .makes)
+          next-records (now .stand) going (one .image) (one .makes)
           ∙ ap (λ (more : List Record). newRecords s source (t .at) ++ more) (sym (batch-is (one .image) batch′ (one .makes .few) (one .written)));
     }
 
@@ -160,62 +128,42 @@ module _ (source : List Record) (x₀ x : Held) (before : Before source x₀ x) 
   module _ (t′ : State) (work′ batch′ : List ℕ) (long : length batch′ ≡ length (x₀ .batch)) (kept : work′ ≡ x .work) (adds : Adding t′ batch′) where
     written′ : stored (x .table) (t .made) batch′ (adds .count) ≡ over (newRecords s source (t .at + 1)) (x₀ .table)
     written′ =
-        (λ i. stored (live .written i) (live .stand .made i) batch′ (adds .count))
+        (λ i. stored (now .written i) (now .stand .made i) batch′ (adds .count))
         ∙ stored-behind (newRecords s source (t .at)) (x₀ .table) batch′ (adds .count)
-        (omega (arith, few-records (s .place - 1) (s .node) source (t .at) (omega (arith, left, live .fit .there)), adds .few, left, live .entries))
-        (omega (arith, adds .few, long, before .numbers))
+        (omega (arith, few-records (s .place - 1) (s .node) source (t .at) (omega (arith, there)), adds .few, here, now .asked .entries))
+        (omega (arith, adds .few, long, now .asked .numbers))
         ∙ ap (λ (all : List Record). over all (x₀ .table)) (sym (adds .grown))
 
     abbrev After : State → Type 0
-    After u = Before source x₀ (turned u64 shape storer from-field count-field (x .table) u work′ batch′) × (u .used - u .at < t .used - t .at)
+    After u = SoFar source x₀ (turned u64 shape storer from-field count-field (x .table) u work′ batch′) × (u .used - u .at < t .used - t .at)
 
     onward : After t′
-    onward = subst After (sym (adds .state)) (next, omega (arith, left, live .stand .used))
+    onward = subst After (sym (adds .state)) (next, omega (arith, here, now .stand .used))
       where
-        next : Before source x₀ (turned u64 shape storer from-field count-field (x .table) (passed t (adds .count)) work′ batch′)
+        next : SoFar source x₀ (turned u64 shape storer from-field count-field (x .table) (passed t (adds .count)) work′ batch′)
         next = record {
-          numbers = before .numbers;
-          kept = kept ∙ before .kept;
-          idle = λ e. absurd (true≢false (sym e ∙ begun));
-          live = λ _. record {
-            fit = live .fit;
-            stand =
-                stands-next source s t (x₀ .work) (x .work) (live .fit) (ap length (before .kept)) (live .stand) has left (adds .count)
-                (recordsIn (adds .count) batch′) (length-records (adds .count) batch′) (adds .grown);
-            numbered = live .numbered;
-            entries = live .entries;
-            refused = live .refused;
-            going = ap (ltb (t .at + 1)) (live .stand .used);
-            written = written′;
-          };
+          asked = now .asked;
+          stand =
+              stands-next (now .stand) going (adds .count) (recordsIn (adds .count) batch′) (length-records (adds .count) batch′)
+              (adds .grown) work′ (ap length kept)
+              (subst (HasImages source s (t .at + 1)) (sym (kept ∙ now .kept)) (has-to (t .at + 1) (omega (arith, here))));
+          twice = now .twice;
+          kept = kept ∙ now .kept;
+          written = written′;
         }
 
 -- ---- the whole pass
-stops : (source : List Record) (x₀ x : Held) → Before source x₀ x → x .state .going ≡ false
+stops : (source : List Record) (x₀ x : Held) → SoFar source x₀ x → x .state .going ≡ false
     → RecordsDone source (x₀ .state) (x₀ .work) (x₀ .table) (x .state) (x .work) (x .table)
-stops source x₀ x before ended = record {
-  kept = before .kept;
-  idle = λ e. (before .idle e .0, before .idle e .1);
-  done = λ e. all (before .live e);
+stops source x₀ x now ended = record {
+  kept = now .kept;
+  place = now .stand .place;
+  made = now .stand .made ∙ ap (λ (k : ℕ). length (newRecords (x₀ .state) source k)) last;
+  written = now .written ∙ ap (λ (k : ℕ). over (newRecords (x₀ .state) source k) (x₀ .table)) last;
 }
   where
-    s : State
-    s = x₀ .state
-
-    t : State
-    t = x .state
-
-    all : SoFar source x₀ x → RecordsMade source s (x₀ .table) t (x .table)
-    all now = record {
-      used = now .stand .used;
-      place = now .stand .place;
-      refused = now .refused;
-      made = now .stand .made ∙ ap (λ (k : ℕ). length (newRecords s source k)) last;
-      written = now .written ∙ ap (λ (k : ℕ). over (newRecords s source k) (x₀ .table)) last;
-    }
-      where
-        last : t .at ≡ s .used
-        last = omega (arith, now .stand .at-most, ltb-false (t .at) (s .used) (sym (now .going) ∙ ended))
+    last : x .state .at ≡ x₀ .state .used
+    last = all-passed (now .stand) ended (now .twice)
 
 abbrev law : Law u64 shape storer at-field from-field count-field
 law = record {
@@ -223,12 +171,12 @@ law = record {
   Tell = λ t r w b t′ w′ b′. Recorded t r w t′ w′ b′;
   Ready = λ source x. MayRecord source (x .state) (x .work) (x .table) (x .batch);
   Copied = λ source x y. RecordsDone source (x .state) (x .work) (x .table) (y .state) (y .work) (y .table);
-  Before = Before;
+  Before = SoFar;
   falls = λ source x. x .state .used - x .state .at;
   starts = starts;
-  asks = λ source x₀ x long before going. asks source x₀ x before going (long .1 .1);
-  onward = λ source x₀ x t′ w b long long′ before going told.
-      onward source x₀ x before going t′ w b (long′ .1 .1) (told .kept) (adding source x₀ x before going t′ w b told);
+  asks = λ source x₀ x long now going. (below (now .stand) going, (turning (now .stand) going, omega (arith, now .asked .numbers, long .1 .1)));
+  onward = λ source x₀ x t′ w b long long′ now going told.
+      onward source x₀ x now going t′ w b (long′ .1 .1) (told .kept) (adding source x₀ x now going t′ w b told);
   stops = stops;
 }
 

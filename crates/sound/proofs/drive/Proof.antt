@@ -12,25 +12,21 @@ use lib.Dec.{ltb}
 use lib.ListN.{getD, length, set, take}
 use lib.Seq.{getD-set-other, getD-take, length-take-le}
 use mir.Syntax.{tyInt, w64}
-use contract.Running.{givenOf, tables, tablesOf}
+use contract.Running.{tablesOf}
 use denote.Builtin.{u64}
-use denote.Triple.Spec.{tripleOf}
-use denote.Triple.Table.{cited, entered}
+use denote.Triple.Table.{cited}
 use Rattle.paper.specs.declared.Record.{Record}
 use Rattle.paper.specs.Records.{blankEntry}
 use Rattle.paper.specs.Sound.{entry}
 use Rattle.laws.proofs.Lists.{both-true}
-use Rattle.walks.proofs.Asking.{Hand, Law, Next, asking-meets}
+use Rattle.walks.proofs.Asking.{Hand, Law, asks-all}
 use Rattle.sound.specs.Passing.{AllSound, Passed, Ready, SoundRecord, Weighing}
 use Rattle.sound.specs.OneRecord.{State, Steps, Weighable, failed, further, rowsFound}
 use Rattle.sound.proofs.OneMore.{weighs-more}
 use Rattle.sound.proofs.RowCounts.{rowsAt, some-rows}
 use Rattle.sound.proofs.StateShape.{at-field, shape}
 use Rattle.sound.proofs.Testing.{passes-sound, rows-of, sound-passes}
-use Rattle.sound.proofs.record.next.Symbol as next-def
-use Rattle.sound.proofs.record.next.Symbol.{name as #next}
-use Rattle.sound.proofs.record.next.Met as next-thm
-use Rattle.sound.proofs.drive.Key.{name as #drive}
+use Rattle.sound.proofs.record.next as next
 use Rattle.sound.proofs.drive as drive
 use Rattle.sound.proofs.drive.Statement as stated
 use Rattle.sound.proofs.drive.Code as code
@@ -248,8 +244,5 @@ law = record {
 pub drive-spec : {M : Type 1} → stated.statement M
 unfolding code.routine tablesOf
 drive-spec 𝓤 H 𝓜 𝓖 𝓡 =
-    entered 𝓤 H (tripleOf 𝓤 H (𝓖 .A) drive.signature (drive.spec 𝓤 H (𝓖 .A) (𝓜 .mem) (𝓡 .run)))
-    (tables 𝓤 H 𝓜 𝓡 code.env .C) (tables 𝓤 H 𝓜 𝓡 code.env .Λ) #drive code.function (code.unfolded 𝓤 H 𝓜 𝓡)
-    (asking-meets u64 shape at-field law 𝓤 H (𝓖 .A) (givenOf 𝓤 H 𝓜 𝓖) (tyInt w64) #next (tablesOf 𝓤 H 𝓜 (tables 𝓤 H 𝓜 𝓡 code.env))
-    (cited 𝓤 H (Next u64 shape at-field law 𝓤 H (𝓖 .A)) 𝓜 𝓡 code.env #next next-def.routine code.calls-sound·record·next
-    (next-thm.met 𝓤 H 𝓜 𝓖 𝓡)))
+    asks-all u64 shape at-field law 𝓤 H 𝓜 𝓖 𝓡 (tyInt w64) code.env drive.Key.name next.Symbol.name (code.unfolded 𝓤 H 𝓜 𝓡)
+    (cited 𝓤 H _ 𝓜 𝓡 code.env next.Symbol.name next.Symbol.routine code.calls-sound·record·next (next.Met.met 𝓤 H 𝓜 𝓖 𝓡))

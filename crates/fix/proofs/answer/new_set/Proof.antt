@@ -13,21 +13,6 @@ image-there : (c : tie.After-set) → let work = c .before .before .before .args
     let i = c .set .given .0 .0 in (i < length work) × (getD work i 0 ≤ 60001)
 image-there c = c .before .before .before .pre (c .set .given .0 .0) (c .set .given .1)
 
-enum-told : tie.Need-enum-told
-enum-told c = search needs
-
-enum-told-2 : tie.Need-enum-told-2
-enum-told-2 c = search needs
-
-enum-known-set : tie.Need-enum-known-set
-enum-known-set c = search needs
-
-cast-set-of : tie.Need-cast-set-of
-cast-set-of c = search needs
-
-mul-set-of : tie.Need-mul-set-of
-mul-set-of c = search needs
-
 shared-slice-read-set-of : tie.Need-shared-slice-read-set-of
 shared-slice-read-set-of c = image-there (c .before .before) .0
 
@@ -37,12 +22,6 @@ cast-set-of-2 c = omega (arith, image-there (c .before .before) .1)
 set-of-requires : tie.Need-set-of-requires
 set-of-requires c κs = tt
 
-returns : tie.Need-returns
-returns c = search needs
-
-returns-2 : tie.Need-returns-2
-returns-2 c = search needs
-
 returns-3 : tie.Need-returns-3
 returns-3 c =
     let known = c .before .before .before in
@@ -51,15 +30,5 @@ returns-3 c =
 pub new-set-spec : {M : Type 1} → statement M
 new-set-spec =
     tie.close
-    (tie.spec
-    enum-told
-    enum-told-2
-    enum-known-set
-    cast-set-of
-    mul-set-of
-    shared-slice-read-set-of
-    cast-set-of-2
-    set-of-requires
-    returns
-    returns-2
-    returns-3)
+    (tie.spec (λ c. search needs) (λ c. search needs) (λ c. search needs) (λ c. search needs) (λ c. search needs) shared-slice-read-set-of
+    cast-set-of-2 set-of-requires (λ c. search needs) (λ c. search needs) returns-3)

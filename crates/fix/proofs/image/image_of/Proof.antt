@@ -14,21 +14,6 @@ use Rattle.fix.proofs.image.image_of.Tie as tie
 abbrev image : tie.Start → List Record → List Record × Set
 image c = let a = c .args in imageWith (a .place - 1) (a .node) (a .r) (setIn (a .left)) (setIn (a .right))
 
-sub-index : tie.Need-sub-index
-sub-index c = search needs
-
-cast-index : tie.Need-cast-index
-cast-index c = search needs
-
-without-place-requires : tie.Need-without-place-requires
-without-place-requires c κs = search needs
-
-has-place-requires : tie.Need-has-place-requires
-has-place-requires c κs = search needs
-
-no-record-requires : tie.Need-no-record-requires
-no-record-requires c κs = search needs
-
 returns : tie.Need-returns
 returns c =
     let node = c .before .before in
@@ -39,9 +24,6 @@ returns c =
     none-made (image start) (a .made) (c .no-record .result) 0
     (λ t. image-gone (a .place - 1) (a .node) (a .r) (setIn (a .left)) (setIn (a .right)) t (kind .if1 .taken)
     (sym (there .has-place .ensures) ∙ node .before .if2 .taken) (c .before .if3 .taken)) (c .no-record .ensures)
-
-single-requires : tie.Need-single-requires
-single-requires c κs = search needs
 
 returns-2 : tie.Need-returns-2
 returns-2 c =
@@ -55,9 +37,6 @@ returns-2 c =
     (⊎-elim (λ w. rw (← there .has-place .ensures, w .0 .taken, w .2 .left)) (λ w. rw (← there .has-place .ensures, w .left)) (c .before .if2 .came))
     ∙ ap (λ (b : ℕ). singleRecord (a .r .node) b t) (sym (flag .without-place .ensures))) (c .single .ensures)
 
-union-requires : tie.Need-union-requires
-union-requires c κs = search needs
-
 returns-3 : tie.Need-returns-3
 returns-3 c =
     let kind = c .before in
@@ -67,9 +46,6 @@ returns-3 c =
     as-made (unionRecord (a .r .node) (flag .without-place .result) (setIn (a .left)) (setIn (a .right))) (a .made) (c .union .result) (image start)
     (λ t. image-union (a .place - 1) (a .node) (a .r) (setIn (a .left)) (setIn (a .right)) t (kind .if4 .taken)
     ∙ ap (λ (b : ℕ). unionRecord (a .r .node) b (setIn (a .left)) (setIn (a .right)) t) (sym (flag .without-place .ensures))) (c .union .ensures)
-
-product-requires : tie.Need-product-requires
-product-requires c κs = search needs
 
 returns-4 : tie.Need-returns-4
 returns-4 c =
@@ -84,16 +60,5 @@ returns-4 c =
 pub image-of-spec : {M : Type 1} → statement M
 image-of-spec =
     tie.close
-    (tie.spec
-    sub-index
-    cast-index
-    without-place-requires
-    has-place-requires
-    no-record-requires
-    returns
-    single-requires
-    returns-2
-    union-requires
-    returns-3
-    product-requires
-    returns-4)
+    (tie.spec (λ c. search needs) (λ c. search needs) (λ c κs. search needs) (λ c κs. search needs) (λ c κs. search needs) returns
+    (λ c κs. search needs) returns-2 (λ c κs. search needs) returns-3 (λ c κs. search needs) returns-4)

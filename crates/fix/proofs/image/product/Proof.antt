@@ -18,9 +18,6 @@ right-record c =
     let right = c .before .before .before .before .args .right in
     omega (arith, eqb-false right 1 (c .before .before .if2 .left), eqb-false right 0 (c .if4 .left))
 
-no-record-requires : tie.Need-no-record-requires
-no-record-requires c κs = search needs
-
 returns : tie.Need-returns
 returns c =
     let a = c .before .before .args in
@@ -28,9 +25,6 @@ returns c =
     (λ t. ⊎-elim (λ w. product-left-empty (a .node) (a .flag) t (a .left) (a .right) (w .taken))
     (λ w. product-right-unit (a .node) (a .flag) t (a .left) (a .right) (eqb-true (a .right) 1 (w .1 .taken))) (c .before .if1 .came))
     (c .no-record .ensures)
-
-no-record-requires-2 : tie.Need-no-record-requires-2
-no-record-requires-2 c κs = search needs
 
 returns-2 : tie.Need-returns-2
 returns-2 c =
@@ -40,20 +34,8 @@ returns-2 c =
     (λ w. product-right-empty (a .node) (a .flag) t (a .left) (a .right) (eqb-true (a .right) 0 (w .1 .taken))) (c .before .if3 .came))
     (c .no-record2 .ensures)
 
-sub-t11 : tie.Need-sub-t11
-sub-t11 c = search needs
-
-cast-t12 : tie.Need-cast-t12
-cast-t12 c = search needs
-
 sub-t13 : tie.Need-sub-t13
 sub-t13 c = right-record c
-
-cast-t14 : tie.Need-cast-t14
-cast-t14 c = search needs
-
-one-record-requires : tie.Need-one-record-requires
-one-record-requires c κs = search needs
 
 returns-3 : tie.Need-returns-3
 returns-3 c =
@@ -66,14 +48,5 @@ returns-3 c =
 pub product-spec : {M : Type 1} → statement M
 product-spec =
     tie.close
-    (tie.spec
-    no-record-requires
-    returns
-    no-record-requires-2
-    returns-2
-    sub-t11
-    cast-t12
-    sub-t13
-    cast-t14
-    one-record-requires
-    returns-3)
+    (tie.spec (λ c κs. search needs) returns (λ c κs. search needs) returns-2 (λ c. search needs) (λ c. search needs) sub-t13
+    (λ c. search needs) (λ c κs. search needs) returns-3)

@@ -7,17 +7,11 @@ use borrow.Author.Needs.{needs}
 use Rattle.fix.proofs.image.single.Statement.{statement}
 use Rattle.fix.proofs.image.single.Tie as tie
 
-no-record-requires : tie.Need-no-record-requires
-no-record-requires c κs = search needs
-
 returns : tie.Need-returns
 returns c =
     let a = c .before .before .args in
     none-made (singleRecord (a .node) (a .flag)) (a .made) (c .no-record .result) 1
     (λ t. single-unit (a .node) (a .flag) t (c .before .if1 .taken)) (c .no-record .ensures)
-
-one-record-requires : tie.Need-one-record-requires
-one-record-requires c κs = search needs
 
 returns-2 : tie.Need-returns-2
 returns-2 c =
@@ -26,4 +20,4 @@ returns-2 c =
     (λ t. single-new (a .node) (a .flag) t (c .before .if1 .left)) (c .one-record .ensures)
 
 pub single-spec : {M : Type 1} → statement M
-single-spec = tie.close (tie.spec no-record-requires returns one-record-requires returns-2)
+single-spec = tie.close (tie.spec (λ c κs. search needs) returns (λ c κs. search needs) returns-2)

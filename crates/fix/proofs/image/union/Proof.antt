@@ -13,17 +13,11 @@ use borrow.Author.Needs.{needs}
 use Rattle.fix.proofs.image.union.Statement.{statement}
 use Rattle.fix.proofs.image.union.Tie as tie
 
-no-record-requires : tie.Need-no-record-requires
-no-record-requires c κs = search needs
-
 returns : tie.Need-returns
 returns c =
     let a = c .before .before .args in
     none-made (unionRecord (a .node) (a .flag) (setIn (a .left)) (setIn (a .right))) (a .made) (c .no-record .result) (a .right)
     (λ t. union-left-empty (a .node) (a .flag) t (a .left) (a .right) (c .before .if1 .taken)) (c .no-record .ensures)
-
-no-record-requires-2 : tie.Need-no-record-requires-2
-no-record-requires-2 c κs = search needs
 
 returns-2 : tie.Need-returns-2
 returns-2 c =
@@ -33,21 +27,6 @@ returns-2 c =
     (λ t. ⊎-elim (λ w. union-left-unit (a .node) (a .flag) t (a .left) (a .right) (w .taken))
     (λ w. union-left-record (a .node) (a .flag) t (a .left) (a .right) (omega (arith, w .0 .left))
     (omega (arith, ltb-true (a .right) 2 (w .1 .taken)))) (c .before .if2 .came)) (c .no-record2 .ensures)
-
-sub-t10 : tie.Need-sub-t10
-sub-t10 c = search needs
-
-cast-t11 : tie.Need-cast-t11
-cast-t11 c = search needs
-
-sub-t12 : tie.Need-sub-t12
-sub-t12 c = search needs
-
-cast-t13 : tie.Need-cast-t13
-cast-t13 c = search needs
-
-one-record-requires : tie.Need-one-record-requires
-one-record-requires c κs = search needs
 
 returns-3 : tie.Need-returns-3
 returns-3 c =
@@ -61,14 +40,5 @@ returns-3 c =
 pub union-spec : {M : Type 1} → statement M
 union-spec =
     tie.close
-    (tie.spec
-    no-record-requires
-    returns
-    no-record-requires-2
-    returns-2
-    sub-t10
-    cast-t11
-    sub-t12
-    cast-t13
-    one-record-requires
-    returns-3)
+    (tie.spec (λ c κs. search needs) returns (λ c κs. search needs) returns-2 (λ c. search needs) (λ c. search needs) (λ c. search needs)
+    (λ c. search needs) (λ c κs. search needs) returns-3)

@@ -26,12 +26,6 @@ operand-requires-2 : tie.Need-operand-requires-2
 operand-requires-2 c κs =
     let start = c .before .before .before .before in right-there (start .args .t) (start .args .r) (start .args .work .now) (start .pre)
 
-stop-requires : tie.Need-stop-requires
-stop-requires c κs = search needs
-
-same-length : tie.Need-same-length
-same-length c = search needs
-
 returns : tie.Need-returns
 returns c =
     let both = c .before .before .before in
@@ -51,18 +45,6 @@ image-of-requires c κs =
     may-make (a .t) (a .r) (a .work .now) (start .pre) (first .operand .result) (second .operand2 .result) (first .operand .ensures)
     (second .operand2 .ensures)
 
-mul-work : tie.Need-mul-work
-mul-work c = search needs
-
-slice-write-work : tie.Need-slice-write-work
-slice-write-work c = search needs
-
-pass-requires : tie.Need-pass-requires
-pass-requires c κs = search needs
-
-same-length-2 : tie.Need-same-length-2
-same-length-2 c = search needs
-
 returns-2 : tie.Need-returns-2
 returns-2 c =
     let image = c .before in
@@ -76,15 +58,5 @@ returns-2 c =
 pub image-turn-spec : {M : Type 1} → statement M
 image-turn-spec =
     tie.close
-    (tie.spec
-    operand-requires
-    operand-requires-2
-    stop-requires
-    same-length
-    returns
-    image-of-requires
-    mul-work
-    slice-write-work
-    pass-requires
-    same-length-2
-    returns-2)
+    (tie.spec operand-requires operand-requires-2 (λ c κs. search needs) (λ c. search needs) returns image-of-requires (λ c. search needs)
+    (λ c. search needs) (λ c κs. search needs) (λ c. search needs) returns-2)

@@ -6,9 +6,6 @@ use borrow.Author.Needs.{needs}
 use Rattle.fix.proofs.turn.put.Statement.{statement}
 use Rattle.fix.proofs.turn.put.Tie as tie
 
-slice-write-batch : tie.Need-slice-write-batch
-slice-write-batch c = search needs
-
 slice-write-batch-2 : tie.Need-slice-write-batch-2
 slice-write-batch-2 c = simp length-set (omega arith)
 
@@ -18,23 +15,11 @@ slice-write-batch-3 c = simp length-set (omega arith)
 slice-write-batch-4 : tie.Need-slice-write-batch-4
 slice-write-batch-4 c = simp length-set (omega arith)
 
-slice-write-batch-5 : tie.Need-slice-write-batch-5
-slice-write-batch-5 c = search needs
-
-same-length : tie.Need-same-length
-same-length c = search needs
-
 returns : tie.Need-returns
 returns c = put-record (c .args .batch .now) (c .args .new) (c .pre)
 
 pub put-spec : {M : Type 1} → statement M
 put-spec =
     tie.close
-    (tie.spec
-    slice-write-batch
-    slice-write-batch-2
-    slice-write-batch-3
-    slice-write-batch-4
-    slice-write-batch-5
-    same-length
+    (tie.spec (λ c. search needs) slice-write-batch-2 slice-write-batch-3 slice-write-batch-4 (λ c. search needs) (λ c. search needs)
     returns)

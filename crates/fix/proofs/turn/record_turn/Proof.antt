@@ -4,18 +4,6 @@ use borrow.Author.Needs.{needs}
 use Rattle.fix.proofs.turn.record_turn.Statement.{statement}
 use Rattle.fix.proofs.turn.record_turn.Tie as tie
 
-mul-if1 : tie.Need-mul-if1
-mul-if1 c = search needs
-
-slice-read-if1 : tie.Need-slice-read-if1
-slice-read-if1 c = search needs
-
-add-if1 : tie.Need-add-if1
-add-if1 c = search needs
-
-pass-requires : tie.Need-pass-requires
-pass-requires c κs = search needs
-
 returns : tie.Need-returns
 returns c =
     let a = c .before .before .before .before .before .args in
@@ -39,18 +27,6 @@ image-of-requires c κs =
     may-make (a .t) (a .r) (a .work .now) (start .pre .0) (first .operand .result) (c .operand2 .result) (first .operand .ensures)
     (c .operand2 .ensures)
 
-put-requires : tie.Need-put-requires
-put-requires c κs = search needs
-
-pass-requires-2 : tie.Need-pass-requires-2
-pass-requires-2 c κs = search needs
-
-same-length : tie.Need-same-length
-same-length c = search needs
-
-same-length-2 : tie.Need-same-length-2
-same-length-2 c = search needs
-
 returns-2 : tie.Need-returns-2
 returns-2 c =
     let put = c .before .before .before in
@@ -65,17 +41,5 @@ returns-2 c =
 pub record-turn-spec : {M : Type 1} → statement M
 record-turn-spec =
     tie.close
-    (tie.spec
-    mul-if1
-    slice-read-if1
-    add-if1
-    pass-requires
-    returns
-    operand-requires
-    operand-requires-2
-    image-of-requires
-    put-requires
-    pass-requires-2
-    same-length
-    same-length-2
-    returns-2)
+    (tie.spec (λ c. search needs) (λ c. search needs) (λ c. search needs) (λ c κs. search needs) returns operand-requires operand-requires-2
+    image-of-requires (λ c κs. search needs) (λ c κs. search needs) (λ c. search needs) (λ c. search needs) returns-2)

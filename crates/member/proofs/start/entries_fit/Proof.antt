@@ -66,15 +66,5 @@ returns-2 c =
 pub entries-fit-spec : {M : Type 1} → statement M
 entries-fit-spec =
     tie.close
-    (tie.spec
-    Inv-loop
-    μ-loop
-    loop-holds
-    mul-entry-fits
-    shared-slice-read-entry-fits
-    entry-fits-requires
-    returns
-    add-i
-    loop-less
-    loop-again
+    (tie.spec Inv-loop μ-loop loop-holds mul-entry-fits shared-slice-read-entry-fits entry-fits-requires returns add-i loop-less loop-again
     returns-2)

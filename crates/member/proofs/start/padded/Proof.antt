@@ -3,14 +3,16 @@ use mathlib.Core.List.{List}
 use mathlib.Core.Path.{_∙_, _≡_, ap, refl}
 use Prim.Native.Nat.{_-_, _≤_, ℕ}
 use native.Mathlib.Omega.{arith}
-use lib.ListN.{getD, length, replicate, set}
+use lib.ListN.{getD, length, replicate, set, take}
+use lib.Seq.{take-length}
+use Rattle.paper.specs.Refusals.{over}
 use Rattle.paper.specs.Row.{blank}
-use Rattle.member.proofs.Loops.{written, written-all, written-more}
+use Rattle.member.proofs.Loops.{written-more}
 use Rattle.member.proofs.start.padded.Statement.{statement}
 use Rattle.member.proofs.start.padded.Tie as tie
 
 abbrev Inv-loop : tie.InvT-loop
-Inv-loop row four₀ i₀ four i = (i ≤ length row) × (four ≡ written row (replicate 4 blank) i)
+Inv-loop row four₀ i₀ four i = (i ≤ length row) × (four ≡ over (take i row) (replicate 4 blank))
 
 abbrev μ-loop : tie.MeasureT-loop
 μ-loop row four₀ i₀ four i = length row - i
@@ -50,20 +52,9 @@ returns c =
     let row = c .before .before .args .row .now in
     let l = c .before .loop in
     let all : l .i ≡ length row = omega arith in
-    l .inv .1 ∙ ap (written row (replicate 4 blank)) all ∙ written-all row (replicate 4 blank)
+    l .inv .1 ∙ ap (λ (new : List ℕ). over new (replicate 4 blank)) (ap (λ (n : ℕ). take n row) all ∙ take-length row)
 
 pub padded-spec : {M : Type 1} → statement M
 padded-spec =
     tie.close
-    (tie.spec
-    Inv-loop
-    μ-loop
-    loop-holds
-    mul-four
-    shared-slice-read-four
-    mul-four-2
-    array-write-four
-    add-i
-    loop-less
-    loop-again
-    returns)
+    (tie.spec Inv-loop μ-loop loop-holds mul-four shared-slice-read-four mul-four-2 array-write-four add-i loop-less loop-again returns)

@@ -5,7 +5,7 @@ use Prim.Native.Nat.{_-_, _<_, _≤_}
 use native.Mathlib.Omega.{arith}
 use lib.ListN.{getD, length}
 use Rattle.project.specs.Marks.{Marking}
-use Rattle.project.proofs.Clearing.{cleared-length}
+use Rattle.project.proofs.Zeros.{zeroed-length}
 use Rattle.project.proofs.Marking.{cell-kept, marking-kept, marking-none, marking-none-kept}
 use Rattle.project.proofs.marks.mark.Statement.{statement}
 use Rattle.project.proofs.marks.mark.Tie as tie
@@ -21,7 +21,7 @@ so-far : (c : tie.At-loop Inv-loop μ-loop) → length (c .loop .work) ≡ lengt
 so-far c =
     let a = c .before .args in
     ap length (c .loop .inv .1 .worked)
-    ∙ cleared-length (a .work .now) (c .loop .i) (omega (arith, c .before .pre .there, c .loop .inv .0))
+    ∙ zeroed-length (a .work .now) (c .loop .i) (omega (arith, c .before .pre .there, c .loop .inv .0))
 
 -- a turn is inside the work
 inside : (c : tie.In-loop Inv-loop μ-loop) → c .before .loop .i < length (c .before .before .args .work .now)
@@ -89,19 +89,5 @@ returns c =
 pub mark-spec : {M : Type 1} → statement M
 mark-spec =
     tie.close
-    (tie.spec
-    Inv-loop
-    μ-loop
-    loop-holds
-    mul-cell
-    slice-read-cell
-    mul-work
-    slice-write-work
-    sub-node
-    slice-write-out
-    add-i
-    loop-less
-    loop-again
-    same-length
-    same-length-2
-    returns)
+    (tie.spec Inv-loop μ-loop loop-holds mul-cell slice-read-cell mul-work slice-write-work sub-node slice-write-out add-i loop-less
+    loop-again same-length same-length-2 returns)

@@ -3,13 +3,13 @@ use mathlib.Core.Path.{_∙_, _≡_, ap, refl}
 use Prim.Native.Nat.{_-_, _≤_}
 use native.Mathlib.Omega.{arith}
 use lib.ListN.{length, set}
-use Rattle.project.proofs.Clearing.{cleared, cleared-length}
+use Rattle.project.proofs.Zeros.{zeroed, zeroed-length}
 use Rattle.sound.proofs.Overwriting.{zeros-more}
 use Rattle.project.proofs.marks.unmark.Statement.{statement}
 use Rattle.project.proofs.marks.unmark.Tie as tie
 
 abbrev Inv-loop : tie.InvT-loop
-Inv-loop out₀ n i₀ out i = (i ≤ n) × (out ≡ cleared out₀ i)
+Inv-loop out₀ n i₀ out i = (i ≤ n) × (out ≡ zeroed out₀ i)
 
 abbrev μ-loop : tie.MeasureT-loop
 μ-loop out₀ n i₀ out i = n - i
@@ -17,7 +17,7 @@ abbrev μ-loop : tie.MeasureT-loop
 -- it stays as long as it was
 so-far : (c : tie.At-loop Inv-loop μ-loop) → length (c .loop .out) ≡ length (c .before .args .out .now)
 so-far c =
-    ap length (c .loop .inv .1) ∙ cleared-length (c .before .args .out .now) (c .loop .i) (omega (arith, c .before .pre, c .loop .inv .0))
+    ap length (c .loop .inv .1) ∙ zeroed-length (c .before .args .out .now) (c .loop .i) (omega (arith, c .before .pre, c .loop .inv .0))
 
 loop-holds : tie.Need-loop-holds Inv-loop μ-loop
 loop-holds c = (omega arith, refl)
@@ -46,18 +46,9 @@ returns : tie.Need-returns Inv-loop μ-loop
 returns c =
     let a = c .before .before .args in
     let all : c .before .loop .i ≡ a .n = omega arith in
-    c .before .loop .inv .1 ∙ ap (cleared (a .out .now)) all
+    c .before .loop .inv .1 ∙ ap (zeroed (a .out .now)) all
 
 pub unmark-spec : {M : Type 1} → statement M
 unmark-spec =
     tie.close
-    (tie.spec
-    Inv-loop
-    μ-loop
-    loop-holds
-    slice-write-out
-    add-i
-    loop-less
-    loop-again
-    same-length
-    returns)
+    (tie.spec Inv-loop μ-loop loop-holds slice-write-out add-i loop-less loop-again same-length returns)

@@ -4,15 +4,6 @@ use borrow.Author.Needs.{needs}
 use Rattle.project.proofs.pass.keep.Statement.{statement}
 use Rattle.project.proofs.pass.keep.Tie as tie
 
-has-place-requires : tie.Need-has-place-requires
-has-place-requires c κs = search needs
-
-cast-result : tie.Need-cast-result
-cast-result c = search needs
-
-add-result : tie.Need-add-result
-add-result c = search needs
-
 returns : tie.Need-returns
 returns c = rw (sym (c .before .before .has-place .ensures) ∙ c .before .if1 .taken)
 
@@ -20,4 +11,4 @@ returns-2 : tie.Need-returns-2
 returns-2 c = rw (sym (c .before .has-place .ensures) ∙ c .if1 .left)
 
 pub keep-spec : {M : Type 1} → statement M
-keep-spec = tie.close (tie.spec has-place-requires cast-result add-result returns returns-2)
+keep-spec = tie.close (tie.spec (λ c κs. search needs) (λ c. search needs) (λ c. search needs) returns returns-2)

@@ -7,23 +7,11 @@ use borrow.Author.Needs.{needs}
 use Rattle.project.proofs.pass.next.Statement.{statement}
 use Rattle.project.proofs.pass.next.Tie as tie
 
-look-requires : tie.Need-look-requires
-look-requires c κs = search needs
-
-same-length : tie.Need-same-length
-same-length c = search needs
-
 returns : tie.Need-returns
 returns c =
     let t = c .before .before .before .before .before .before .before .args .t in
     let below : t .at ≡ t .at - 1 = omega arith in
     record { state = rw (eq-eqb (t .at) 0 (c .if1 .taken)) (cc below); worked = c .before .before .before .before .look .ensures }
-
-sub-s : tie.Need-sub-s
-sub-s c = search needs
-
-same-length-2 : tie.Need-same-length-2
-same-length-2 c = search needs
 
 returns-2 : tie.Need-returns-2
 returns-2 c =
@@ -33,4 +21,4 @@ returns-2 c =
     }
 
 pub next-spec : {M : Type 1} → statement M
-next-spec = tie.close (tie.spec look-requires same-length returns sub-s same-length-2 returns-2)
+next-spec = tie.close (tie.spec (λ c κs. search needs) (λ c. search needs) returns (λ c. search needs) (λ c. search needs) returns-2)

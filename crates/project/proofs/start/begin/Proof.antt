@@ -1,33 +1,28 @@
--- `start::begin` starts, or hands the refusal of `weigh` on.
-use mathlib.Core.Path.{refl}
+-- `start::begin` comes to the root, or takes no turn.
+use mathlib.Core.Path.{_∙_, ap, refl}
 use borrow.Author.Needs.{needs}
+use Rattle.project.specs.Start.{rootMarked}
 use Rattle.project.proofs.start.begin.Statement.{statement}
 use Rattle.project.proofs.start.begin.Tie as tie
 
-enum-known-w : tie.Need-enum-known-w
-enum-known-w c = search needs
-
-refused-requires : tie.Need-refused-requires
-refused-requires c κs = search needs
-
-enum-told : tie.Need-enum-told
-enum-told c = search needs
-
-start-requires : tie.Need-start-requires
-start-requires c κs = search needs
+at-root-requires : tie.Need-at-root-requires
+at-root-requires c κs =
+    let told = c .before .before .before .before .before in
+    told .before .before .before .pre (told .enum-told .given .1)
 
 returns : tie.Need-returns
-returns c = rw (c .before .before .w .given .1) (record { state = c .refused .ensures; worked = refl })
-
-same-length : tie.Need-same-length
-same-length c = search needs
+returns c = rw (c .before .ruling .given .1) (record { state = refl; worked = refl })
 
 returns-2 : tie.Need-returns-2
 returns-2 c =
-    let told = c .before .before in
-    rw (told .before .before .enum-told .given .1) (record { state = told .start .ensures .0; worked = told .start .ensures .1 })
+    let rooted = c .before .before in
+    let cleared = rooted .before .before .before .before in
+    let told = cleared .before .before in
+    let set = told .before .before .before .args .head .set in
+    rw (told .enum-told .given .1)
+    (record { state = rooted .at-root .ensures .0; worked = rooted .at-root .ensures .1 ∙ ap (rootMarked set) (cleared .clear .ensures) })
 
 pub begin-spec : {M : Type 1} → statement M
 begin-spec =
     tie.close
-    (tie.spec enum-known-w refused-requires enum-told start-requires returns same-length returns-2)
+    (tie.spec (λ c. search needs) (λ c. search needs) (λ c κs. search needs) at-root-requires returns (λ c. search needs) returns-2)

@@ -5,9 +5,6 @@ use borrow.Author.Tests.{eq-eqb, ne-eqb}
 use Rattle.row.proofs.descent.begin_lower.Statement.{statement}
 use Rattle.row.proofs.descent.begin_lower.Tie as tie
 
-go-down-requires : tie.Need-go-down-requires
-go-down-requires c κs = search needs
-
 returns : tie.Need-returns
 returns c =
     let a = c .before .before .before .args in
@@ -20,4 +17,4 @@ returns-2 c =
 
 pub begin-lower-spec : {M : Type 1} → statement M
 begin-lower-spec =
-    tie.close (tie.spec go-down-requires returns returns-2)
+    tie.close (tie.spec (λ c κs. search needs) returns returns-2)

@@ -5,19 +5,10 @@ use Rattle.row.proofs.Turns.{at-product, at-single, at-union}
 use Rattle.row.proofs.descent.next.Statement.{statement}
 use Rattle.row.proofs.descent.next.Tie as tie
 
-place-node-requires : tie.Need-place-node-requires
-place-node-requires c κs = search needs
-
 returns : tie.Need-returns
 returns c =
     let a = c .before .before .before .args in
     record { state = c .place-node .ensures ∙ sym (at-single (a .t) (a .r) (a .work .now) (c .before .if1 .taken)); kept = refl }
-
-union-side-requires : tie.Need-union-side-requires
-union-side-requires c κs = search needs
-
-same-length : tie.Need-same-length
-same-length c = search needs
 
 returns-2 : tie.Need-returns-2
 returns-2 c =
@@ -27,9 +18,6 @@ returns-2 c =
 product-side-requires : tie.Need-product-side-requires
 product-side-requires c κs = (search needs, c .before .before .before .before .pre .factor (c .before .before .if1 .left) (c .before .if2 .left))
 
-same-length-2 : tie.Need-same-length-2
-same-length-2 c = search needs
-
 returns-3 : tie.Need-returns-3
 returns-3 c =
     let a = c .before .before .before .before .before .args in
@@ -38,12 +26,5 @@ returns-3 c =
 pub next-spec : {M : Type 1} → statement M
 next-spec =
     tie.close
-    (tie.spec
-    place-node-requires
-    returns
-    union-side-requires
-    same-length
-    returns-2
-    product-side-requires
-    same-length-2
+    (tie.spec (λ c κs. search needs) returns (λ c κs. search needs) (λ c. search needs) returns-2 product-side-requires (λ c. search needs)
     returns-3)

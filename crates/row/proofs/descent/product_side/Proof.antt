@@ -11,52 +11,10 @@ place-says : (c : tie.After-has-place) → let a = c .before .before .before .be
     c .has-place .result ≡ hasPlace (flagAt (a .work .now) (a .r .left)) (a .t .place)
 place-says c = rw (c .before .flag-in .ensures) at (c .has-place .ensures)
 
-cast-left : tie.Need-cast-left
-cast-left c = search needs
-
-cast-right : tie.Need-cast-right
-cast-right c = search needs
-
-mul-rows-in : tie.Need-mul-rows-in
-mul-rows-in c = search needs
-
-shared-slice-read-rows-in : tie.Need-shared-slice-read-rows-in
-shared-slice-read-rows-in c = search needs
-
-rows-in-requires : tie.Need-rows-in-requires
-rows-in-requires c κs = search needs
-
-mul-flag-in : tie.Need-mul-flag-in
-mul-flag-in c = search needs
-
-shared-slice-read-flag-in : tie.Need-shared-slice-read-flag-in
-shared-slice-read-flag-in c = search needs
-
-flag-in-requires : tie.Need-flag-in-requires
-flag-in-requires c κs = search needs
-
-cast-flag : tie.Need-cast-flag
-cast-flag c = search needs
-
-has-place-requires : tie.Need-has-place-requires
-has-place-requires c κs = search needs
-
-div-go-down : tie.Need-div-go-down
-div-go-down c = search needs
-
-go-down-requires : tie.Need-go-down-requires
-go-down-requires c κs = search needs
-
 returns : tie.Need-returns
 returns c =
     let placed = c .before .before .before in
     c .go-down .ensures ∙ rw (placed .before .before .before .rows-in .ensures, sym (place-says placed) ∙ c .before .before .if1 .taken) refl
-
-rem-go-down : tie.Need-rem-go-down
-rem-go-down c = search needs
-
-go-down-requires-2 : tie.Need-go-down-requires-2
-go-down-requires-2 c κs = search needs
 
 returns-2 : tie.Need-returns-2
 returns-2 c =
@@ -66,20 +24,6 @@ returns-2 c =
 pub product-side-spec : {M : Type 1} → statement M
 product-side-spec =
     tie.close
-    (tie.spec
-    cast-left
-    cast-right
-    mul-rows-in
-    shared-slice-read-rows-in
-    rows-in-requires
-    mul-flag-in
-    shared-slice-read-flag-in
-    flag-in-requires
-    cast-flag
-    has-place-requires
-    div-go-down
-    go-down-requires
-    returns
-    rem-go-down
-    go-down-requires-2
-    returns-2)
+    (tie.spec (λ c. search needs) (λ c. search needs) (λ c. search needs) (λ c. search needs) (λ c κs. search needs) (λ c. search needs)
+    (λ c. search needs) (λ c κs. search needs) (λ c. search needs) (λ c κs. search needs) (λ c. search needs) (λ c κs. search needs) returns
+    (λ c. search needs) (λ c κs. search needs) returns-2)

@@ -7,33 +7,12 @@ use Rattle.row.specs.Descent.{rowsAt}
 use Rattle.row.proofs.descent.union_side.Statement.{statement}
 use Rattle.row.proofs.descent.union_side.Tie as tie
 
-cast-left : tie.Need-cast-left
-cast-left c = search needs
-
-mul-rows-in : tie.Need-mul-rows-in
-mul-rows-in c = search needs
-
-shared-slice-read-rows-in : tie.Need-shared-slice-read-rows-in
-shared-slice-read-rows-in c = search needs
-
-rows-in-requires : tie.Need-rows-in-requires
-rows-in-requires c κs = search needs
-
-begin-lower-requires : tie.Need-begin-lower-requires
-begin-lower-requires c κs = search needs
-
 returns : tie.Need-returns
 returns c =
     let read = c .before .before .before in
     let a = read .before .before .before .before .args in
     let on-the-left : a .t .number < rowsAt (a .work .now) (a .r .left) = rw (read .rows-in .ensures) at (c .before .if1 .taken) in
     c .begin-lower .ensures ∙ rw (lt-ltb (a .t .number) (rowsAt (a .work .now) (a .r .left)) on-the-left) refl
-
-cast-begin-lower : tie.Need-cast-begin-lower
-cast-begin-lower c = search needs
-
-begin-lower-requires-2 : tie.Need-begin-lower-requires-2
-begin-lower-requires-2 c κs = search needs
 
 returns-2 : tie.Need-returns-2
 returns-2 c =
@@ -45,13 +24,5 @@ returns-2 c =
 pub union-side-spec : {M : Type 1} → statement M
 union-side-spec =
     tie.close
-    (tie.spec
-    cast-left
-    mul-rows-in
-    shared-slice-read-rows-in
-    rows-in-requires
-    begin-lower-requires
-    returns
-    cast-begin-lower
-    begin-lower-requires-2
-    returns-2)
+    (tie.spec (λ c. search needs) (λ c. search needs) (λ c. search needs) (λ c κs. search needs) (λ c κs. search needs) returns
+    (λ c. search needs) (λ c κs. search needs) returns-2)

@@ -46,13 +46,4 @@ returns-2 c =
 pub open-from-spec : {M : Type 1} → statement M
 open-from-spec =
     tie.close
-    (tie.spec
-    Inv-loop
-    μ-loop
-    loop-holds
-    has-place-requires
-    returns
-    add-i
-    loop-less
-    loop-again
-    returns-2)
+    (tie.spec Inv-loop μ-loop loop-holds has-place-requires returns add-i loop-less loop-again returns-2)

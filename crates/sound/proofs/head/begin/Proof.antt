@@ -6,14 +6,8 @@ use borrow.Author.Tests.{le-leb, lt-leb, not-false, not-true}
 use Rattle.sound.proofs.head.begin.Statement.{statement}
 use Rattle.sound.proofs.head.begin.Tie as tie
 
-cast-t5 : tie.Need-cast-t5
-cast-t5 c = search needs
-
 returns : tie.Need-returns
 returns c = simp (lt-leb _ _ (c .if1 .taken))
-
-head-fits-requires : tie.Need-head-fits-requires
-head-fits-requires c κs = search needs
 
 returns-2 : tie.Need-returns-2
 returns-2 c = simp (sym (c .before .head-fits .ensures) ∙ not-true _ (c .if2 .taken), and-false)
@@ -24,4 +18,4 @@ returns-3 c =
     simp (sym (tested .head-fits .ensures) ∙ not-false _ (c .before .if2 .left), le-leb _ _ (tested .before .if1 .left))
 
 pub begin-spec : {M : Type 1} → statement M
-begin-spec = tie.close (tie.spec cast-t5 returns head-fits-requires returns-2 returns-3)
+begin-spec = tie.close (tie.spec (λ c. search needs) returns (λ c κs. search needs) returns-2 returns-3)

@@ -23,9 +23,6 @@ returns : tie.Need-returns
 unfolding headFits
 returns c = simp (lt-leb _ _ (c .if1 .taken))
 
-cast-if2 : tie.Need-cast-if2
-cast-if2 c = search needs
-
 returns-2 : tie.Need-returns-2
 unfolding headFits
 returns-2 c = simp (lt-leb _ _ (c .if2 .taken), and-false)
@@ -34,15 +31,9 @@ returns-3 : tie.Need-returns-3
 unfolding headFits
 returns-3 c = simp (lt-leb _ _ (c .if3 .taken), and-false)
 
-cast-if4 : tie.Need-cast-if4
-cast-if4 c = search needs
-
 returns-4 : tie.Need-returns-4
 unfolding headFits
 returns-4 c = simp (lt-leb _ _ (c .if4 .taken), and-false)
-
-shl-if5 : tie.Need-shl-if5
-shl-if5 c = search needs
 
 returns-5 : tie.Need-returns-5
 unfolding headFits
@@ -51,12 +42,6 @@ returns-5 c =
     let h = few .before .before .before .before .before .before .before .before .args .head in
     let high : 2 ^ h .arity ≤ h .open_places = omega (arith, c .if5 .taken, shifted (h .arity) (few .if4 .left)) in
     simp (le-ltb (h .open_places) (2 ^ h .arity) high, and-false)
-
-cast-if6 : tie.Need-cast-if6
-cast-if6 c = search needs
-
-cast-result : tie.Need-cast-result
-cast-result c = search needs
 
 returns-6 : tie.Need-returns-6
 unfolding headFits
@@ -80,16 +65,5 @@ returns-7 c = simp (lt-leb _ _ (c .if6 .left), and-false)
 pub head-fits-spec : {M : Type 1} → statement M
 head-fits-spec =
     tie.close
-    (tie.spec
-    returns
-    cast-if2
-    returns-2
-    returns-3
-    cast-if4
-    returns-4
-    shl-if5
-    returns-5
-    cast-if6
-    cast-result
-    returns-6
-    returns-7)
+    (tie.spec returns (λ c. search needs) returns-2 returns-3 (λ c. search needs) returns-4 (λ c. search needs) returns-5
+    (λ c. search needs) (λ c. search needs) returns-6 returns-7)

@@ -21,17 +21,8 @@ module _ (c : tie.Joined2) where
       ⊎-elim {C = Fails} (λ w. ap₂ _&&_ (w .0 .taken) (sym (w .2 .ensures) ∙ w .3 .left))
       (λ w. ap (λ (b : Bool). b && setFits (start .args .head) (start .args .work .now) (start .args .head .set)) (w .left)) (c .if2 .came)
 
-cast-used : tie.Need-cast-used
-cast-used c = search needs
-
 returns : tie.Need-returns
 returns c = let a = c .before .before .before .args in judged-short (a .t) (a .head) (a .work .now) (c .if1 .taken)
-
-set-fits-requires : tie.Need-set-fits-requires
-set-fits-requires c κs = search needs
-
-same-length : tie.Need-same-length
-same-length c = search needs
 
 returns-2 : tie.Need-returns-2
 returns-2 c =
@@ -40,12 +31,6 @@ returns-2 c =
     let a = passed .before .before .before .before .args in
     judged-sound (a .t) (a .head) (a .work .now) (passed .before .if1 .left)
     (ap₂ _&&_ (passed .if2 .taken) (sym (tested .set-fits .ensures) ∙ c .if3 .taken))
-
-clear-requires : tie.Need-clear-requires
-clear-requires c κs = search needs
-
-same-length-2 : tie.Need-same-length-2
-same-length-2 c = search needs
 
 returns-3 : tie.Need-returns-3
 returns-3 c =
@@ -58,12 +43,5 @@ returns-3 c =
 pub judge-spec : {M : Type 1} → statement M
 judge-spec =
     tie.close
-    (tie.spec
-    cast-used
-    returns
-    set-fits-requires
-    same-length
-    returns-2
-    clear-requires
-    same-length-2
+    (tie.spec (λ c. search needs) returns (λ c κs. search needs) (λ c. search needs) returns-2 (λ c κs. search needs) (λ c. search needs)
     returns-3)

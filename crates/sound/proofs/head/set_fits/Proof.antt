@@ -21,33 +21,6 @@ module _ (h : Head) (weights : List ℕ) {i : ℕ} where
   record-late : h .used ≤ i → ltb i (h .used) ≡ setFits h weights (at i)
   record-late l = rw (le-ltb i (h .used) l)
 
-enum-told : tie.Need-enum-told
-enum-told c = search needs
-
-enum-told-2 : tie.Need-enum-told-2
-enum-told-2 c = search needs
-
-enum-known-set : tie.Need-enum-known-set
-enum-known-set c = search needs
-
-cast-flag-in : tie.Need-cast-flag-in
-cast-flag-in c = search needs
-
-mul-flag-in : tie.Need-mul-flag-in
-mul-flag-in c = search needs
-
-shared-slice-read-flag-in : tie.Need-shared-slice-read-flag-in
-shared-slice-read-flag-in c = search needs
-
-flag-in-requires : tie.Need-flag-in-requires
-flag-in-requires c κs = search needs
-
-cast-result : tie.Need-cast-result
-cast-result c = search needs
-
-returns : tie.Need-returns
-returns c = search needs
-
 returns-2 : tie.Need-returns-2
 returns-2 c = let a = c .before .before .before .before .args in ap (setFits (a .head) (a .work .now)) (sym (c .before .enum-told2 .given .1))
 
@@ -66,16 +39,5 @@ returns-4 c =
 pub set-fits-spec : {M : Type 1} → statement M
 set-fits-spec =
     tie.close
-    (tie.spec
-    enum-told
-    enum-told-2
-    enum-known-set
-    cast-flag-in
-    mul-flag-in
-    shared-slice-read-flag-in
-    flag-in-requires
-    cast-result
-    returns
-    returns-2
-    returns-3
-    returns-4)
+    (tie.spec (λ c. search needs) (λ c. search needs) (λ c. search needs) (λ c. search needs) (λ c. search needs) (λ c. search needs)
+    (λ c κs. search needs) (λ c. search needs) (λ c. search needs) returns-2 returns-3 returns-4)

@@ -31,19 +31,10 @@ module _ (a b flag : ℕ) where
       go true e = sym (ne-eqb (a + b) flag (λ w. other (or-disjoint a b (eqb-true (bitAnd a b) 0 e) ∙ w)))
       go false e = refl
 
-filled-requires : tie.Need-filled-requires
-filled-requires c κs = search needs
-
-filled-requires-2 : tie.Need-filled-requires-2
-filled-requires-2 c κs = search needs
-
 add-result : tie.Need-add-result
 add-result c =
     let a = c .before .before .before .args in
     omega (arith, c .before .filled .ensures, c .filled2 .ensures, ones-le 64 (a .left) (omega arith), ones-le 64 (a .right) (omega arith))
-
-filled-requires-3 : tie.Need-filled-requires-3
-filled-requires-3 c κs = search needs
 
 returns : tie.Need-returns
 returns c =
@@ -56,4 +47,4 @@ returns-2 : tie.Need-returns-2
 returns-2 c = let a = c .before .args in ne-eqb _ _ (c .if1 .left) ∙ not-made (a .left) (a .right) (a .flag) (c .if1 .left)
 
 pub adds-spec : {M : Type 1} → statement M
-adds-spec = tie.close (tie.spec filled-requires filled-requires-2 add-result filled-requires-3 returns returns-2)
+adds-spec = tie.close (tie.spec (λ c κs. search needs) (λ c κs. search needs) add-result (λ c κs. search needs) returns returns-2)

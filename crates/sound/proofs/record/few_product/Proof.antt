@@ -22,9 +22,6 @@ mul-result c = omega (arith, small c)
 returns : tie.Need-returns
 returns c = simp (le-leb _ _ (small c))
 
-div-if3 : tie.Need-div-if3
-div-if3 c = search needs
-
 mul-result-2 : tie.Need-mul-result-2
 mul-result-2 c = omega (arith, fits c)
 
@@ -39,4 +36,4 @@ returns-3 c =
     simp (lt-leb _ _ many)
 
 pub few-product-spec : {M : Type 1} → statement M
-few-product-spec = tie.close (tie.spec mul-result returns div-if3 mul-result-2 returns-2 returns-3)
+few-product-spec = tie.close (tie.spec mul-result returns (λ c. search needs) mul-result-2 returns-2 returns-3)

@@ -32,15 +32,6 @@ module _ (a b flag : ℕ) where
 returns : tie.Need-returns
 returns c = let a = c .before .args in not-made (a .left) (a .right) (a .flag) (c .if1 .taken)
 
-filled-requires : tie.Need-filled-requires
-filled-requires c κs = search needs
-
-filled-requires-2 : tie.Need-filled-requires-2
-filled-requires-2 c κs = search needs
-
-filled-requires-3 : tie.Need-filled-requires-3
-filled-requires-3 c κs = search needs
-
 returns-2 : tie.Need-returns-2
 returns-2 c =
     let l = c .before .before in
@@ -66,4 +57,4 @@ returns-3 c =
     )
 
 pub keeps-spec : {M : Type 1} → statement M
-keeps-spec = tie.close (tie.spec returns filled-requires filled-requires-2 filled-requires-3 returns-2 returns-3)
+keeps-spec = tie.close (tie.spec returns (λ c κs. search needs) (λ c κs. search needs) (λ c κs. search needs) returns-2 returns-3)

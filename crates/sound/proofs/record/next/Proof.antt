@@ -14,39 +14,15 @@ fits : (c : tie.After-weight-by)
     recordFits (a .r) (a .t .nodes) (a .t .arity) ≡ true
 fits c = sym (c .before .before .before .record-fits .ensures) ∙ not-false _ (c .before .before .if1 .left)
 
-record-fits-requires : tie.Need-record-fits-requires
-record-fits-requires c κs = search needs
-
 returns : tie.Need-returns
 returns c =
     let a = c .before .before .before .args in
     fits-not (a .t) (a .r) (a .work .now) (sym (c .before .record-fits .ensures) ∙ not-true _ (c .if1 .taken))
 
-weight-by-requires : tie.Need-weight-by-requires
-weight-by-requires c κs = search needs
-
-same-length : tie.Need-same-length
-same-length c = search needs
-
 returns-2 : tie.Need-returns-2
 returns-2 c =
     let a = c .before .before .before .before .before .before .args in
     weighs-none (a .t) (a .r) (a .work .now) (fits (c .before)) (sym (c .before .weight-by .ensures) ∙ c .if2 .taken)
-
-mul-work : tie.Need-mul-work
-mul-work c = search needs
-
-slice-write-work : tie.Need-slice-write-work
-slice-write-work c = search needs
-
-add-e : tie.Need-add-e
-add-e c = search needs
-
-add-e-2 : tie.Need-add-e-2
-add-e-2 c = search needs
-
-same-length-2 : tie.Need-same-length-2
-same-length-2 c = search needs
 
 returns-3 : tie.Need-returns-3
 returns-3 c =
@@ -57,15 +33,5 @@ returns-3 c =
 pub next-spec : {M : Type 1} → statement M
 next-spec =
     tie.close
-    (tie.spec
-    record-fits-requires
-    returns
-    weight-by-requires
-    same-length
-    returns-2
-    mul-work
-    slice-write-work
-    add-e
-    add-e-2
-    same-length-2
-    returns-3)
+    (tie.spec (λ c κs. search needs) returns (λ c κs. search needs) (λ c. search needs) returns-2 (λ c. search needs) (λ c. search needs)
+    (λ c. search needs) (λ c. search needs) (λ c. search needs) returns-3)

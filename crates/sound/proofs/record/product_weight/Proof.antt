@@ -43,26 +43,8 @@ module _ (c : tie.After-few-product) where
   few : c .few-product .result ≤ mostRows
   few = rw rows-made (few-if (rowsIn (start .args .left) * rowsIn (start .args .right)))
 
-flag-in-requires : tie.Need-flag-in-requires
-flag-in-requires c κs = search needs
-
-flag-in-requires-2 : tie.Need-flag-in-requires-2
-flag-in-requires-2 c κs = search needs
-
-adds-requires : tie.Need-adds-requires
-adds-requires c κs = search needs
-
 returns : tie.Need-returns
 returns c = simp (sym (adds-says (c .before)) ∙ not-true _ (c .if1 .taken))
-
-rows-in-requires : tie.Need-rows-in-requires
-rows-in-requires c κs = search needs
-
-rows-in-requires-2 : tie.Need-rows-in-requires-2
-rows-in-requires-2 c κs = search needs
-
-few-product-requires : tie.Need-few-product-requires
-few-product-requires c κs = search needs
 
 weight-of-requires : tie.Need-weight-of-requires
 weight-of-requires c κs = (few (c .before), omega (arith, sum (c .before)))
@@ -78,14 +60,5 @@ returns-3 c =
 pub product-weight-spec : {M : Type 1} → statement M
 product-weight-spec =
     tie.close
-    (tie.spec
-    flag-in-requires
-    flag-in-requires-2
-    adds-requires
-    returns
-    rows-in-requires
-    rows-in-requires-2
-    few-product-requires
-    weight-of-requires
-    returns-2
-    returns-3)
+    (tie.spec (λ c κs. search needs) (λ c κs. search needs) (λ c κs. search needs) returns (λ c κs. search needs) (λ c κs. search needs)
+    (λ c κs. search needs) weight-of-requires returns-2 returns-3)

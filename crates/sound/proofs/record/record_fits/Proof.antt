@@ -18,9 +18,6 @@ returns-2 : tie.Need-returns-2
 unfolding recordFits
 returns-2 c = simp (lt-ltb _ _ (c .before .before .if1 .left), le-ltb _ _ (c .if2 .taken))
 
-shl-result : tie.Need-shl-result
-shl-result c = search needs
-
 returns-3 : tie.Need-returns-3
 unfolding recordFits
 returns-3 c =
@@ -29,4 +26,4 @@ returns-3 c =
     simp (two-to, lt-ltb _ _ (c .before .before .before .if1 .left), lt-ltb _ _ (c .before .if2 .left), and-true)
 
 pub record-fits-spec : {M : Type 1} → statement M
-record-fits-spec = tie.close (tie.spec returns returns-2 shl-result returns-3)
+record-fits-spec = tie.close (tie.spec returns returns-2 (λ c. search needs) returns-3)

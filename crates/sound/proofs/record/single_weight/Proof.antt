@@ -12,9 +12,6 @@ returns c = simp (ne-eqb _ _ (c .if1 .taken))
 returns-2 : tie.Need-returns-2
 returns-2 c = simp (eq-eqb _ _ (c .before .before .if1 .left), ne-eqb _ _ (c .if2 .taken))
 
-cast-weight-of : tie.Need-cast-weight-of
-cast-weight-of c = search needs
-
 weight-of-requires : tie.Need-weight-of-requires
 weight-of-requires c κs = (omega arith, omega arith)
 
@@ -23,4 +20,4 @@ returns-3 c =
     c .weight-of .ensures ∙ simp (eq-eqb _ _ (c .before .before .before .before .if1 .left), eq-eqb _ _ (c .before .before .if2 .left))
 
 pub single-weight-spec : {M : Type 1} → statement M
-single-weight-spec = tie.close (tie.spec returns returns-2 cast-weight-of weight-of-requires returns-3)
+single-weight-spec = tie.close (tie.spec returns returns-2 (λ c. search needs) weight-of-requires returns-3)

@@ -38,15 +38,6 @@ module _ (c : tie.Else1) where
   all-rows : rowsIn (start .args .left + (start .args .right - start .args .flag)) ≡ rows
   all-rows = omega (arith, left-flag, right-flag)
 
-flag-in-requires : tie.Need-flag-in-requires
-flag-in-requires c κs = search needs
-
-flag-in-requires-2 : tie.Need-flag-in-requires-2
-flag-in-requires-2 c κs = search needs
-
-keeps-requires : tie.Need-keeps-requires
-keeps-requires c κs = search needs
-
 returns : tie.Need-returns
 returns c = simp (sym (keeps-says (c .before)) ∙ not-true _ (c .if1 .taken))
 
@@ -55,9 +46,6 @@ sub-weight c = omega (arith, right-flag c)
 
 add-weight : tie.Need-add-weight
 add-weight c = omega (arith, right-flag c)
-
-rows-in-requires : tie.Need-rows-in-requires
-rows-in-requires c κs = search needs
 
 returns-2 : tie.Need-returns-2
 returns-2 c =
@@ -73,13 +61,5 @@ returns-3 c =
 pub union-weight-spec : {M : Type 1} → statement M
 union-weight-spec =
     tie.close
-    (tie.spec
-    flag-in-requires
-    flag-in-requires-2
-    keeps-requires
-    returns
-    sub-weight
-    add-weight
-    rows-in-requires
-    returns-2
-    returns-3)
+    (tie.spec (λ c κs. search needs) (λ c κs. search needs) (λ c κs. search needs) returns sub-weight add-weight (λ c κs. search needs)
+    returns-2 returns-3)

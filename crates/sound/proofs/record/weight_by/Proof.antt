@@ -7,15 +7,6 @@ use Rattle.sound.proofs.ByKind.{by-none, by-product, by-single, by-unio
 use Rattle.sound.proofs.record.weight_by.Statement.{statement}
 use Rattle.sound.proofs.record.weight_by.Tie as tie
 
-cast-left : tie.Need-cast-left
-cast-left c = search needs
-
-cast-right : tie.Need-cast-right
-cast-right c = search needs
-
-single-weight-requires : tie.Need-single-weight-requires
-single-weight-requires c κs = search needs
-
 returns : tie.Need-returns
 returns c =
     let a = c .before .before .before .before .before .args in
@@ -31,17 +22,8 @@ returns-3 c =
     let a = c .before .before .before .before .before .before .args in
     ap (weightFor (a .r .flag)) (right-later (a .r) (a .at) (a .work .now) (c .before .before .if1 .left) (omega (arith, c .if3 .taken)))
 
-cast-flag : tie.Need-cast-flag
-cast-flag c = search needs
-
-mul-union-weight : tie.Need-mul-union-weight
-mul-union-weight c = search needs
-
 shared-slice-read-union-weight : tie.Need-shared-slice-read-union-weight
 shared-slice-read-union-weight c = omega arith
-
-mul-union-weight-2 : tie.Need-mul-union-weight-2
-mul-union-weight-2 c = search needs
 
 shared-slice-read-union-weight-2 : tie.Need-shared-slice-read-union-weight-2
 shared-slice-read-union-weight-2 c = omega arith
@@ -52,14 +34,8 @@ union-weight-requires c κs =
     let pre = s .before .before .before .before .before .before .pre in
     (pre .some _ (s .before .if2 .left), pre .few _ (s .before .if2 .left), pre .few _ (s .if3 .left))
 
-mul-product-weight : tie.Need-mul-product-weight
-mul-product-weight c = search needs
-
 shared-slice-read-product-weight : tie.Need-shared-slice-read-product-weight
 shared-slice-read-product-weight c = omega arith
-
-mul-product-weight-2 : tie.Need-mul-product-weight-2
-mul-product-weight-2 c = search needs
 
 shared-slice-read-product-weight-2 : tie.Need-shared-slice-read-product-weight-2
 shared-slice-read-product-weight-2 c = omega arith
@@ -95,24 +71,7 @@ returns-6 c =
 pub weight-by-spec : {M : Type 1} → statement M
 weight-by-spec =
     tie.close
-    (tie.spec
-    cast-left
-    cast-right
-    single-weight-requires
-    returns
-    returns-2
-    returns-3
-    cast-flag
-    mul-union-weight
-    shared-slice-read-union-weight
-    mul-union-weight-2
-    shared-slice-read-union-weight-2
-    union-weight-requires
-    mul-product-weight
-    shared-slice-read-product-weight
-    mul-product-weight-2
-    shared-slice-read-product-weight-2
-    product-weight-requires
-    returns-4
-    returns-5
-    returns-6)
+    (tie.spec (λ c. search needs) (λ c. search needs) (λ c κs. search needs) returns returns-2 returns-3 (λ c. search needs)
+    (λ c. search needs) shared-slice-read-union-weight (λ c. search needs) shared-slice-read-union-weight-2 union-weight-requires
+    (λ c. search needs) shared-slice-read-product-weight (λ c. search needs) shared-slice-read-product-weight-2 product-weight-requires
+    returns-4 returns-5 returns-6)
