@@ -1,10 +1,10 @@
 -- The first lines, by what was built and counted; and a row's line, by whether the row was written.
-use mathlib.Core.Bool.{Bool, false, true, true≢false}
+use mathlib.Core.Bool.{false, true, true≢false}
 use mathlib.Core.List.{List}
 use mathlib.Core.Path.{_∙_, _≡_, ap, refl, sym}
-use Prim.Native.Nat.{_+_, _-_, _≤_, ℕ}
+use Prim.Native.Nat.{_+_, _≤_, ℕ}
 use native.Mathlib.Omega.{arith}
-use lib.Dec.{leb, ltb}
+use lib.Dec.{ltb}
 use lib.ListN.{length, take}
 use Rattle.paper.specs.declared.Built.{Built}
 use Rattle.paper.specs.declared.Built.the-variants as BuiltIs
@@ -16,14 +16,13 @@ use Rattle.paper.specs.declared.StreamRefusal.{StreamRefusal}
 use Rattle.paper.specs.declared.Written.{Written}
 use Rattle.paper.specs.declared.Written.the-variants as WrittenIs
 use Rattle.paper.specs.Answers.{noOf, noOfStream, saysBuilt, saysCounted, saysWritten}
-use Rattle.list.specs.Bounds.{longestLine}
 use Rattle.list.specs.declared.handed.Handed.{Handed}
 use Rattle.list.specs.declared.page.Page.{Page}
 use Rattle.list.specs.Handing.{nothingHanded}
 use Rattle.list.specs.Page.{Facts, Lines, MakesRoom, Opens, Refuses, RowThere, ended, lined, withRoom}
 use Rattle.lines.specs.Put.{Puts}
 use Rattle.list.specs.Text.{lineText}
-use Rattle.list.proofs.Waiting.{room-failed, room-made}
+use Rattle.list.proofs.Waiting.{room-either, room-failed, room-made}
 
 pub opens-refused : (b : Built) (n : Counted) (why : StreamRefusal) (t : Page) (text : List ℕ) → b ≡ BuiltIs.Refused why
     → Refuses (noOfStream why) t text → Opens (saysBuilt b) (saysCounted n) t text
@@ -60,11 +59,7 @@ after t end next = record {
 }
 
 after-is : (t : Page) (room end : ℕ) → after t end (withRoom room t) ≡ lined (withRoom room t) end
-after-is t room end = go (leb longestLine (room - t .bytes)) refl
-  where
-    go : (c : Bool) → leb longestLine (room - t .bytes) ≡ c → after t end (withRoom room t) ≡ lined (withRoom room t) end
-    go true e = rw e
-    go false e = rw e
+after-is t room end = room-either (λ (u : Page). after t end u ≡ lined u end) room t refl refl
 
 -- what `put_line` makes of a page and a row that was written
 module _ (t : Page) (w : Written) (written : w ≡ WrittenIs.Row) (row text : List ℕ) (next : Page) (text₁ : List ℕ)

@@ -1,19 +1,18 @@
--- The loop over the rows, on plain values. First how far the text is told, as a line is put; then what `row` answers; then what holds before each
--- turn, that a turn keeps it, and what it says where the loop ends.
+-- The loop over the rows, on plain values. First how far the text is told, as a line is put; then what holds before each turn, what it says where
+-- the loop ends, and that a turn keeps it.
 use mathlib.Core.Bool.{Bool, cond, false, true, true≢false}
 use mathlib.Core.List.{List, [], _++_, append-assoc, append-cancel-left, append-nil}
-use mathlib.Core.Path.{_∙_, _≡_, ap, refl, subst, sym}
+use mathlib.Core.Path.{_∙_, _≡_, ap, ap₂, refl, subst, sym}
 use Prim.Native.Nat.{_+_, _-_, _<_, _^_, _≤_, ℕ}
 use native.Mathlib.Omega.{arith}
 use borrow.Author.Tests.{le-leb, lt-ltb, ltb-false, ltb-true}
-use lib.Dec.{leb}
+use borrow.Table.Steps.{cases}
 use lib.ListN.{drop, length, length-append, take, take-append-drop}
 use lib.Seq.{take-at}
 use Rattle.paper.specs.declared.Head.{Head}
 use Rattle.paper.specs.declared.Record.{Record}
 use Rattle.paper.specs.declared.Written.{Written}
 use Rattle.paper.specs.Answers.{saysWritten, told}
-use Rattle.paper.specs.Lists.{_∈_}
 use Rattle.paper.specs.Questions.{countOf, rowNumbered}
 use Rattle.paper.specs.Records.{listing}
 use Rattle.paper.specs.Refusals.{Reply, answer, outputAfter, over, rowByNumber, rowTests}
@@ -26,13 +25,13 @@ use Rattle.row.proofs.RowNumbers.{row-listed}
 use Rattle.list.specs.Bounds.{longestLine}
 use Rattle.list.specs.declared.page.Page.{Page}
 use Rattle.list.specs.Handing.{HandsOn, Next, textOf}
-use Rattle.list.specs.Listing.{Fits, Going, Listable, Lists, Ready, Rows, Tells, linesTo, setText}
+use Rattle.list.specs.Listing.{Going, Lists, Ready, Rows, Tells, linesTo, setText}
 use Rattle.list.specs.Page.{LineReady, Lines, PutsLine, RowThere, Waits, lined, passedOn, withRoom}
 use Rattle.lines.specs.Put.{Puts}
 use Rattle.list.specs.Text.{lineText, linesText}
 use Rattle.list.proofs.LinesText.{line-short, to-all, to-more, to-short, to-whole}
 use Rattle.list.proofs.SoundRows.{rows-few, rows-long}
-use Rattle.list.proofs.Waiting.{waits-room}
+use Rattle.list.proofs.Waiting.{room-either, waits-room}
 
 -- ---- how far the text is told
 -- what waits is the part of the text that comes next
@@ -69,20 +68,14 @@ module _ (input : List ℕ) (t : Page) (text : List ℕ) (L : Lists input t text
   lists-all r failed e = record { all = λ _. ap (λ (u : Page). u .handed .bytes) e ∙ tells-all .bytes }
 
 -- what waits may be handed on: then it is told
-passed-tells : (far rest : List ℕ) (t : Page) (text : List ℕ) → Tells (far ++ rest) far t text → Tells (far ++ rest) far (passedOn t false) text
-passed-tells far rest t text T = record {
-  next = append-nil (take (t .handed .bytes + t .bytes) (far ++ rest)) ∙ take-at far rest (t .handed .bytes + t .bytes) (sym (T .bytes));
-  bytes = omega (arith, T .bytes);
-  countable = T .countable;
-  within = omega arith;
-}
-
-room-tells : (far rest : List ℕ) (t : Page) (text : List ℕ) → Tells (far ++ rest) far t text → Tells (far ++ rest) far (withRoom (length text) t) text
-room-tells far rest t text T = go (leb longestLine (length text - t .bytes)) refl
-  where
-    go : (c : Bool) → leb longestLine (length text - t .bytes) ≡ c → Tells (far ++ rest) far (withRoom (length text) t) text
-    go true e = rw e T
-    go false e = rw e (passed-tells far rest t text T)
+passed-tells : (whole far rest : List ℕ) (t : Page) (text : List ℕ) → whole ≡ far ++ rest → Tells whole far t text → Tells whole far (passedOn t false) text
+passed-tells whole far rest t text splits T =
+    let n = t .handed .bytes + t .bytes in record {
+      next = append-nil (take n whole) ∙ ap (take n) splits ∙ take-at far rest n (sym (T .bytes));
+      bytes = omega (arith, T .bytes);
+      countable = T .countable;
+      within = omega arith;
+    }
 
 -- a line is put behind what waits
 line-tells : (whole far line : List ℕ) (u : Page) (text : List ℕ) (end : ℕ) (text′ : List ℕ) → Tells whole far u text
@@ -97,53 +90,16 @@ line-tells whole far line u text end text′ T P fits few = record {
 }
 
 -- what is left as it was where room is made
-pub record Same (t u : Page) : Type 0 where
-  pub number : u .number ≡ t .number
-  pub rows : u .rows ≡ t .rows
-  pub places : u .places ≡ t .places
-  pub fine : t .handed .failed ≡ false → u .handed .failed ≡ false
+record Same (t u : Page) : Type 0 where
+  number : u .number ≡ t .number
+  rows : u .rows ≡ t .rows
+  places : u .places ≡ t .places
+  fine : t .handed .failed ≡ false → u .handed .failed ≡ false
 
 room-same : (room : ℕ) (t : Page) → Same t (withRoom room t)
-room-same room t = go (leb longestLine (room - t .bytes)) refl
-  where
-    go : (c : Bool) → leb longestLine (room - t .bytes) ≡ c → Same t (withRoom room t)
-    go true e = rw e (record { number = refl; rows = refl; places = refl; fine = λ f. f })
-    go false e = rw e (record { number = refl; rows = refl; places = refl; fine = λ f. refl })
-
--- ---- a row by number
-module _ (h : Head) (table : List Record) (cells : ℕ) (able : Listable h table cells) where
-  is-sound : Sound h table
-  is-sound = sound-is h table (able .is-sound)
-
-  four : (row : Row) → row ∈ listing h table → length row ≤ 4
-  four row m = omega (arith, rows-long h table is-sound row m, is-sound .few-places)
-
-  module _ (n : ℕ) (below : n < countOf h table) where
-    row-long : length (rowNumbered h table n) ≡ h .arity
-    row-long = rows-long h table is-sound (rowNumbered h table n) (row-listed (listing h table) n below)
-
-    row-answered : rowByNumber h table cells n 4 ≡ answer (rowNumbered h table n)
-    row-answered =
-        answers (rowTests h table cells n 4) (rowNumbered h table n)
-        (le-leb (h .used) cells (able .enough), (able .is-sound, (lt-ltb n (countOf h table) below, (le-leb (h .arity) 4 (is-sound .few-places), tt))))
-
-    module _ (work out : List ℕ) (long : length work ≡ cells) (places : length out ≡ 4) (r : Written) (work′ out′ : List ℕ)
-        (N : Numbers h table work n out r work′ out′) where
-      reply : rowByNumber h table (length work) n (length out) ≡ answer (rowNumbered h table n)
-      reply =
-          ap (λ (k : ℕ). rowByNumber h table k n (length out)) long ∙ ap (λ (k : ℕ). rowByNumber h table cells n k) places ∙ row-answered
-
-      row-said : saysWritten r ≡ answer tt
-      row-said = N .answer ∙ ap (told (λ _. tt)) reply
-
-      row-stands : out′ ≡ over (rowNumbered h table n) out
-      row-stands = N .written ∙ ap (λ (a : Reply Row). outputAfter a out) reply
-
-      row-taken : take (h .arity) out′ ≡ rowNumbered h table n
-      row-taken = ap (take (h .arity)) row-stands ∙ take-at (rowNumbered h table n) (drop (length (rowNumbered h table n)) out) (h .arity) row-long
-
-      row-fits : h .arity ≤ length out′
-      row-fits = omega (arith, ap length row-stands, length-append (rowNumbered h table n) (drop (length (rowNumbered h table n)) out), row-long)
+room-same room t =
+    room-either (Same t) room t (record { number = refl; rows = refl; places = refl; fine = λ f. f })
+    (record { number = refl; rows = refl; places = refl; fine = λ _. refl })
 
 -- ---- the loop
 -- what it has in hand
@@ -162,19 +118,23 @@ falls-most : (c : Bool) (n : ℕ) → cond c n 0 ≤ n
 falls-most true n = omega arith
 falls-most false n = omega arith
 
-module _ (h : Head) (table : List Record) (s : Page) (text input : List ℕ) where
+module _ (h : Head) (table : List Record) (s : Page) (work text input : List ℕ) (ready : Ready h table s work text input) where
   pub record Before (x : Hand) : Type 0 where
-    pub room : Fits (x .page) (x .text)
+    pub work-long : length (x .work) ≡ length work
+    pub row-long : length (x .row) ≡ 4
+    pub text-long : length (x .text) ≡ length text
+    pub within : x .page .bytes ≤ length text
     pub none : s .going ≡ false → (x .page ≡ s) × (x .text ≡ text)
-    pub able : s .going ≡ true → Listable h table (length (x .work)) × (setText h table ≡ textOf input)
     pub goes : s .going ≡ true → x .page .handed .failed ≡ false → Going h table (x .page) (x .text)
     pub stuck : s .going ≡ true → x .page .handed .failed ≡ true → x .page .going ≡ false
 
-  pub starts : (work row : List ℕ) → Ready h table s work text input → Before (record { page = s; work = work; row = row; text = text })
-  starts work row ready = record {
-    room = ready .room;
+  pub starts : (row : List ℕ) → length row ≡ 4 → Before (record { page = s; work = work; row = row; text = text })
+  starts row long = record {
+    work-long = refl;
+    row-long = long;
+    text-long = refl;
+    within = ready .room .within;
     none = λ _. (refl, refl);
-    able = λ on. (ready .goes on .0, ready .goes on .2);
     goes = λ on _. ready .goes on .1;
     stuck = λ on failed. absurd (true≢false (sym failed ∙ ready .goes on .1 .fine));
   }
@@ -189,27 +149,16 @@ module _ (h : Head) (table : List Record) (s : Page) (text input : List ℕ) whe
   }
 
   -- a turn
-  module _ (x : Hand) (B : Before x) (goes-on : x .page .going ≡ true) (places : length (x .row) ≡ 4) (r : Written) (w′ o′ : List ℕ)
+  module _ (x : Hand) (B : Before x) (goes-on : x .page .going ≡ true) (r : Written) (w′ o′ : List ℕ)
       (N : Numbers h table (x .work) (x .page .number) (x .row) r w′ o′) where
     abbrev t : Page
     t = x .page
 
     on : s .going ≡ true
-    on = go (s .going) refl
-      where
-        go : (c : Bool) → s .going ≡ c → s .going ≡ true
-        go true e = e
-        go false e = absurd (true≢false (sym goes-on ∙ ap (λ (p : Page). p .going) (B .none e .0) ∙ e))
+    on = cases (s .going) (λ e. e) (λ e. absurd (true≢false (sym goes-on ∙ ap (λ (p : Page). p .going) (B .none e .0) ∙ e)))
 
     fine : t .handed .failed ≡ false
-    fine = go (t .handed .failed) refl
-      where
-        go : (c : Bool) → t .handed .failed ≡ c → t .handed .failed ≡ false
-        go true e = absurd (true≢false (sym goes-on ∙ B .stuck on e))
-        go false e = e
-
-    able : Listable h table (length (x .work))
-    able = B .able on .0
+    fine = cases (t .handed .failed) (λ e. absurd (true≢false (sym goes-on ∙ B .stuck on e))) (λ e. e)
 
     G : Going h table t (x .text)
     G = B .goes on fine
@@ -220,52 +169,88 @@ module _ (h : Head) (table : List Record) (s : Page) (text input : List ℕ) whe
     below : t .number < countOf h table
     below = omega (arith, next, G .rows)
 
+    is-sound : Sound h table
+    is-sound = sound-is h table (ready .goes on .0 .is-sound)
+
+    -- the row is written
+    abbrev row : Row
+    row = rowNumbered h table (t .number)
+
+    row-long : length row ≡ h .arity
+    row-long = rows-long h table is-sound row (row-listed (listing h table) (t .number) below)
+
+    reply : rowByNumber h table (length (x .work)) (t .number) (length (x .row)) ≡ answer row
+    reply =
+        ap₂ (λ (cells places : ℕ). rowByNumber h table cells (t .number) places) (B .work-long) (B .row-long)
+        ∙ answers (rowTests h table (length work) (t .number) 4) row (
+          le-leb (h .used) (length work) (ready .goes on .0 .enough),
+          (ready .goes on .0 .is-sound, (lt-ltb (t .number) (countOf h table) below, (le-leb (h .arity) 4 (is-sound .few-places), tt))),
+        )
+
     said : saysWritten r ≡ answer tt
-    said = row-said h table (length (x .work)) able (t .number) below (x .work) (x .row) refl places r w′ o′ N
+    said = N .answer ∙ ap (told (λ _. tt)) reply
+
+    stands : o′ ≡ over row (x .row)
+    stands = N .written ∙ ap (λ (a : Reply Row). outputAfter a (x .row)) reply
 
     there : RowThere (t .places) (saysWritten r) o′
     there =
-        subst (λ (a : Reply (Unit {0})). RowThere (t .places) a o′) (sym said)
-        (omega (arith, G .places, is-sound h table (length (x .work)) able .few-places), omega (arith, G .places, row-fits h table (length (x .work)) able (t .number) below (x .work) (x .row) refl places r w′ o′ N))
+        subst (λ (a : Reply (Unit {0})). RowThere (t .places) a o′) (sym said) (
+          omega (arith, G .places, is-sound .few-places),
+          omega (arith, G .places, ap length stands, length-append row (drop (length row) (x .row)), row-long),
+        )
 
     -- what waits may be handed on
+    abbrev far : List ℕ
+    far = linesTo h table (t .number)
+
+    abbrev rest : List ℕ
+    rest = linesText (drop (t .number) (listing h table))
+
     waits : Waits input t (x .text)
     waits = record {
-      within = B .room .within;
+      within = omega (arith, B .within, B .text-long);
       fine = fine;
-      next = subst (λ (whole : List ℕ). Next whole (t .handed) (take (t .bytes) (x .text))) (B .able on .1)
-          (tells-next (setText h table) (linesTo h table (t .number)) (linesText (drop (t .number) (listing h table))) t (x .text) (to-whole h table (t .number)) (G .tells));
+      next = subst (λ (whole : List ℕ). Next whole (t .handed) (take (t .bytes) (x .text))) (ready .goes on .2)
+          (tells-next (setText h table) far rest t (x .text) (to-whole h table (t .number)) (G .tells));
       countable = omega (arith, G .tells .bytes, G .tells .countable);
     }
 
     pub asks : LineReady input t (saysWritten r) o′ (x .text)
-    asks = record { long = B .room .long; short = B .room .short; waits = waits; next = next; there = there }
+    asks = record {
+      long = omega (arith, ready .room .long, B .text-long);
+      short = omega (arith, ready .room .short, B .text-long);
+      waits = waits;
+      next = next;
+      there = there;
+    }
 
     -- the line of the row is put behind what waits, or what waits is handed on before
-    module _ (t′ : Page) (m′ : List ℕ) (work-long : length w′ ≡ length (x .work)) (text-long : length m′ ≡ length (x .text))
+    module _ (t′ : Page) (m′ : List ℕ) (w-long : length w′ ≡ length work) (o-long : length o′ ≡ 4) (m-long : length m′ ≡ length text)
         (L : Lines t (saysWritten r) o′ (x .text) t′ m′) where
-      abbrev after : Page → Hand
-      after p = record { page = p; work = w′; row = o′; text = m′ }
+      abbrev after : Hand
+      after = record { page = t′; work = w′; row = o′; text = m′ }
 
       line-put : PutsLine t o′ (x .text) t′ m′
       line-put = subst (λ (a : Reply (Unit {0})). Lines t a o′ (x .text) t′ m′) said L
 
-      -- what a page needs behind the turn
-      before : (p : Page) → p .bytes ≤ length m′ → (p .handed .failed ≡ false → Going h table p m′) → (p .handed .failed ≡ true → p .going ≡ false)
-          → Before (after p)
-      before p fits goes stuck = record {
-        room = record { long = omega (arith, B .room .long, text-long); short = omega (arith, B .room .short, text-long); within = fits };
+      -- what is needed behind the turn
+      before : t′ .bytes ≤ length text → (t′ .handed .failed ≡ false → Going h table t′ m′) → (t′ .handed .failed ≡ true → t′ .going ≡ false) → Before after
+      before within goes stuck = record {
+        work-long = w-long;
+        row-long = o-long;
+        text-long = m-long;
+        within = within;
         none = λ off. absurd (true≢false (sym on ∙ off));
-        able = λ _. (record { enough = omega (arith, able .enough, work-long); is-sound = able .is-sound }, B .able on .1);
         goes = λ _. goes;
         stuck = λ _. stuck;
       }
 
       -- handing on has failed: the page does not go on
-      stuck-onward : t′ .handed .failed ≡ true → Before (after t′) × (falls (after t′) < falls x)
+      stuck-onward : t′ .handed .failed ≡ true → Before after × (falls after < falls x)
       stuck-onward failed =
           let off = line-put .fails failed in (
-            before t′ (off .1) (λ still. absurd (true≢false (sym failed ∙ still))) (λ _. off .0),
+            before (omega (arith, off .1, m-long)) (λ still. absurd (true≢false (sym failed ∙ still))) (λ _. off .0),
             rw (off .0, goes-on) (let z : 0 < t .rows - t .number = omega (arith, next) in z),
           )
 
@@ -283,49 +268,43 @@ module _ (h : Head) (table : List Record) (s : Page) (text input : List ℕ) whe
         same : Same t room
         same = room-same (length (x .text)) t
 
-        taken : take (t .places) o′ ≡ rowNumbered h table (t .number)
-        taken =
-            ap (λ (k : ℕ). take k o′) (G .places)
-            ∙ row-taken h table (length (x .work)) able (t .number) below (x .work) (x .row) refl places r w′ o′ N
+        taken : take (t .places) o′ ≡ row
+        taken = ap₂ take (G .places) stands ∙ take-at row (drop (length row) (x .row)) (h .arity) row-long
 
         short-line : length line ≤ longestLine
-        short-line =
-            line-short (take (t .places) o′)
-            (omega (arith, ap length taken, row-long h table (length (x .work)) able (t .number) below, is-sound h table (length (x .work)) able .few-places))
+        short-line = line-short (take (t .places) o′) (omega (arith, ap length taken, row-long, is-sound .few-places))
 
         fits : t′ .bytes ≤ length m′
-        fits = omega (arith, put .0 .ends, short-line, waits-room (length (x .text)) t (B .room .long) (B .room .within), text-long)
+        fits =
+            omega (
+              arith,
+              put .0 .ends,
+              short-line,
+              waits-room (length (x .text)) t (omega (arith, ready .room .long, B .text-long)) (waits .within),
+              B .text-long,
+              m-long,
+            )
 
-        few : length (linesTo h table (t .number) ++ line) < 2 ^ 64
+        few : length (far ++ line) < 2 ^ 64
         few =
             omega (
               arith,
-              length-append (linesTo h table (t .number)) line,
+              length-append far line,
               short-line,
-              to-short h table (four h table (length (x .work)) able) (t .number) (omega (arith, below)),
+              to-short h table (λ any m. omega (arith, rows-long h table is-sound any m, is-sound .few-places)) (t .number) (omega (arith, below)),
               below,
-              rows-few h table (is-sound h table (length (x .work)) able),
+              rows-few h table is-sound,
             )
 
         -- the text is told up to this row
         tells-more : Tells (setText h table) (linesTo h table (room .number + 1)) (lined room (t′ .bytes)) m′
         tells-more =
-            subst (λ (far : List ℕ). Tells (setText h table) far (lined room (t′ .bytes)) m′) one-more
-            (line-tells (setText h table) (linesTo h table (t .number)) line room (x .text) (t′ .bytes) m′ with-room (put .0) fits few)
-          where
-            rest : List ℕ
-            rest = linesText (drop (t .number) (listing h table))
-
-            with-room : Tells (setText h table) (linesTo h table (t .number)) room (x .text)
-            with-room =
-                subst (λ (whole : List ℕ). Tells whole (linesTo h table (t .number)) room (x .text)) (sym (to-whole h table (t .number)))
-                (room-tells (linesTo h table (t .number)) rest t (x .text)
-                (subst (λ (whole : List ℕ). Tells whole (linesTo h table (t .number)) t (x .text)) (to-whole h table (t .number)) (G .tells)))
-
-            one-more : linesTo h table (t .number) ++ line ≡ linesTo h table (room .number + 1)
-            one-more =
-                ap (λ (row : Row). linesTo h table (t .number) ++ lineText row) taken ∙ sym (to-more h table (t .number) below)
-                ∙ ap (λ (k : ℕ). linesTo h table (k + 1)) (sym (same .number))
+            subst (λ (told-to : List ℕ). Tells (setText h table) told-to (lined room (t′ .bytes)) m′)
+            (ap (λ (some : Row). far ++ lineText some) taken ∙ sym (to-more h table (t .number) below)
+            ∙ ap (λ (k : ℕ). linesTo h table (k + 1)) (sym (same .number)))
+            (line-tells (setText h table) far line room (x .text) (t′ .bytes) m′
+            (room-either (λ (u : Page). Tells (setText h table) far u (x .text)) (length (x .text)) t (G .tells)
+            (passed-tells (setText h table) far rest t (x .text) (to-whole h table (t .number)) (G .tells))) (put .0) fits few)
 
         goes-further : Going h table (lined room (t′ .bytes)) m′
         goes-further = record {
@@ -337,16 +316,21 @@ module _ (h : Head) (table : List Record) (s : Page) (text input : List ℕ) whe
           tells = tells-more;
         }
 
-        put-onward : Before (after t′) × (falls (after t′) < falls x)
+        put-onward : Before after × (falls after < falls x)
         put-onward = (
-          before t′ fits (λ _. subst (λ (p : Page). Going h table p m′) (sym (put .1)) goes-further) (λ failed. absurd (true≢false (sym failed ∙ still))),
+          before (omega (arith, fits, m-long)) (λ _. subst (λ (p : Page). Going h table p m′) (sym (put .1)) goes-further)
+              (λ failed. absurd (true≢false (sym failed ∙ still))),
           rw goes-on
-              (omega (arith, falls-most (t′ .going) (t′ .rows - t′ .number), ap (λ (p : Page). p .number) (put .1), ap (λ (p : Page). p .rows) (put .1), same .number, same .rows, next)),
+              (omega (
+                arith,
+                falls-most (t′ .going) (t′ .rows - t′ .number),
+                ap (λ (p : Page). p .number) (put .1),
+                ap (λ (p : Page). p .rows) (put .1),
+                same .number,
+                same .rows,
+                next,
+              )),
         )
 
-      pub onward : Before (after t′) × (falls (after t′) < falls x)
-      onward = go (t′ .handed .failed) refl
-        where
-          go : (c : Bool) → t′ .handed .failed ≡ c → Before (after t′) × (falls (after t′) < falls x)
-          go true e = stuck-onward e
-          go false e = put-onward e
+      pub onward : Before after × (falls after < falls x)
+      onward = cases (t′ .handed .failed) stuck-onward put-onward

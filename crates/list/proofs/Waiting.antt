@@ -1,10 +1,11 @@
 -- The page before a line is put: where the line fits, where it might not and what waits is handed on, and where that fails.
-use mathlib.Core.Bool.{Bool, false, true, true≢false}
+use mathlib.Core.Bool.{false, true, true≢false}
 use mathlib.Core.List.{List, _++_}
 use mathlib.Core.Path.{_∙_, _≡_, ap, ap₂, refl, sym}
 use Prim.Native.Nat.{_+_, _-_, _<_, _≤_, ℕ}
 use native.Mathlib.Omega.{arith}
 use borrow.Author.Tests.{le-leb, leb-false, leb-true, lt-leb}
+use borrow.Table.Steps.{cases}
 use lib.Dec.{leb}
 use lib.IntN.{pos}
 use lib.ListN.{length, take}
@@ -16,6 +17,10 @@ use Rattle.list.specs.Handing.{Due}
 use Rattle.list.specs.Page.{MakesRoom, Waits, passedOn, withRoom}
 use Rattle.lines.specs.Put.{Puts}
 
+-- what holds of a page, and of it where what waits is handed on, holds with room made
+pub room-either : (P : Page → Type 0) (room : ℕ) (t : Page) → P t → P (passedOn t false) → P (withRoom room t)
+room-either P room t kept passed = cases (leb longestLine (room - t .bytes)) (λ e. rw e kept) (λ e. rw e passed)
+
 waits-all : (room : ℕ) (t : Page) → longestLine ≤ room - t .bytes → withRoom room t ≡ t
 waits-all room t h = rw (le-leb longestLine (room - t .bytes) h)
 
@@ -24,11 +29,8 @@ waits-none room t h = rw (lt-leb longestLine (room - t .bytes) h)
 
 -- then a line fits
 pub waits-room : (room : ℕ) (t : Page) → longestLine ≤ room → t .bytes ≤ room → withRoom room t .bytes + longestLine ≤ room
-waits-room room t long within = go (leb longestLine (room - t .bytes)) refl
-  where
-    go : (c : Bool) → leb longestLine (room - t .bytes) ≡ c → withRoom room t .bytes + longestLine ≤ room
-    go true e = rw e (omega (arith, leb-true longestLine (room - t .bytes) e, within))
-    go false e = rw e (omega (arith, long))
+waits-room room t long within =
+    cases (leb longestLine (room - t .bytes)) (λ e. rw e (omega (arith, leb-true longestLine (room - t .bytes) e, within))) (λ e. rw e (omega (arith, long)))
 
 -- ---- what waits may be handed to standard output
 pub due : (input : List ℕ) (t : Page) (text : List ℕ) → Waits input t text → Due (pos 1) input (t .handed) (take (t .bytes) text)
@@ -70,26 +72,19 @@ module _ (t : Page) (text : List ℕ) (next : Page) (text₁ : List ℕ) (fine :
   }
 
   pub room-made : next .handed .failed ≡ false → Roomy
-  room-made still = go (leb longestLine (length text - t .bytes)) refl
-    where
-      go : (c : Bool) → leb longestLine (length text - t .bytes) ≡ c → Roomy
-      go true e =
-          let fits = leb-true longestLine (length text - t .bytes) e in
-          let page : next ≡ withRoom (length text) t = M .keeps fits .0 ∙ sym (waits-all (length text) t fits) in
-          roomy page (ap₂ (λ (u : Page) (m : List ℕ). take (u .bytes) m) page (M .keeps fits .1))
-      go false e =
-          let full = leb-false longestLine (length text - t .bytes) e in
-          let empty : next ≡ passedOn t false = M .passes full ∙ ap (passedOn t) still in
-          let none = waits-none (length text) t full in
-          roomy (empty ∙ sym none)
-          (ap (λ (u : Page). take (u .bytes) text₁) empty ∙ ap (λ (u : Page). take (u .bytes) text) (sym none))
+  room-made still =
+      cases (leb longestLine (length text - t .bytes)) (λ e.
+      let fits = leb-true longestLine (length text - t .bytes) e in
+      let page : next ≡ withRoom (length text) t = M .keeps fits .0 ∙ sym (waits-all (length text) t fits) in
+      roomy page (ap₂ (λ (u : Page) (m : List ℕ). take (u .bytes) m) page (M .keeps fits .1))) (λ e.
+      let full = leb-false longestLine (length text - t .bytes) e in
+      let empty : next ≡ passedOn t false = M .passes full ∙ ap (passedOn t) still in
+      let none = waits-none (length text) t full in
+      roomy (empty ∙ sym none) (ap (λ (u : Page). take (u .bytes) text₁) empty ∙ ap (λ (u : Page). take (u .bytes) text) (sym none)))
 
   -- handing on has failed, and nothing waits
   pub room-failed : next .handed .failed ≡ true → next .bytes ≡ 0
-  room-failed failed = go (leb longestLine (length text - t .bytes)) refl
-    where
-      go : (c : Bool) → leb longestLine (length text - t .bytes) ≡ c → next .bytes ≡ 0
-      go true e =
-          let same = M .keeps (leb-true longestLine (length text - t .bytes) e) .0 in
-          absurd (true≢false (sym failed ∙ ap (λ (u : Page). u .handed .failed) same ∙ fine))
-      go false e = ap (λ (u : Page). u .bytes) (M .passes (leb-false longestLine (length text - t .bytes) e))
+  room-failed failed =
+      cases (leb longestLine (length text - t .bytes))
+      (λ e. absurd (true≢false (sym failed ∙ ap (λ (u : Page). u .handed .failed) (M .keeps (leb-true longestLine (length text - t .bytes) e) .0) ∙ fine)))
+      (λ e. ap (λ (u : Page). u .bytes) (M .passes (leb-false longestLine (length text - t .bytes) e)))

@@ -1,5 +1,6 @@
+pub mod Asking
 pub mod HeadNumbers
 pub mod OneAnswer
-pub mod Outputs
-pub mod Passing
+pub mod Prelude
 pub mod Telling
+pub mod Writing

@@ -9,6 +9,7 @@ use Rattle.paper.specs.declared.Built.{Built}
 use Rattle.paper.specs.declared.Converted.{Converted}
 use Rattle.paper.specs.declared.Counted.{Counted}
 use Rattle.paper.specs.declared.Fixed.{Fixed}
+use Rattle.paper.specs.declared.Head.{Head}
 use Rattle.paper.specs.declared.Member.{Member}
 use Rattle.paper.specs.declared.Projected.{Projected}
 use Rattle.paper.specs.declared.Record.{Record}
@@ -30,13 +31,14 @@ use Rattle.tarnsatchel.specs.Told.{TellsWhere, answerAfter, code, headNu
 pub tells-answer : {A : Type 0} {reply : Reply A} {a new : A} (old : A) → reply ≡ answer a → new ≡ a → Tells reply old 0 new
 tells-answer old e f = record { number = sym (ap code e); shown = f ∙ sym (ap (λ x. answerAfter x old) e) }
 
-code-told : {A B : Type 0} (f : A → B) (x : Reply A) → code (told f x) ≡ code x
-code-told f (refused n) = refl
-code-told f (answer a) = refl
+-- a reply of which something is said: its number, the head of an answer that has more, and its position
+number-said : {A B : Type 0} (f : A → B) (x : Reply A) {y : Reply B} {r : ℕ} → r ≡ code y → y ≡ told f x → r ≡ code x
+number-said f (refused n) e says = e ∙ ap code says
+number-said f (answer a) e says = e ∙ ap code says
 
-told-told : {A B C : Type 0} (g : B → C) (f : A → B) (x : Reply A) → told g (told f x) ≡ told (λ a. g (f a)) x
-told-told g f (refused n) = refl
-told-told g f (answer a) = refl
+head-said : {A : Type 0} (x : Reply (Head × A)) {y : Reply Head} → y ≡ told (λ a. a .0) x → told headNumbers y ≡ told (λ a. headNumbers (a .0)) x
+head-said (refused n) says = ap (told headNumbers) says
+head-said (answer a) says = ap (told headNumbers) says
 
 position-told : {A B : Type 0} (f : A → B) (x : Reply A) (old : ℕ) → positionAfter (told f x) old ≡ positionAfter x old
 position-told f (refused w) old = refl
@@ -63,15 +65,14 @@ pub tells-built : {A : Type 0} {reply : Reply A} {a new : A} (old : A) (position
     → TellsWhere reply old position 0 new position
 tells-built old position e f = record { tells = tells-answer old e f; position-is = sym (ap (λ x. positionAfter x position) e) }
 
-pub tells-build : (input work : List ℕ) (table : List Record) (head : List ℕ) (position : ℕ) (b : Built) (r : ℕ) (work′ : List ℕ)
-    (table′ : List Record) (head′ : List ℕ) (position′ : ℕ)
+pub tells-build : {input work work′ head head′ : List ℕ} {table table′ : List Record} {position position′ r : ℕ} {b : Built}
     → Builds input work table b work′ table′ → TellsWhere (told headNumbers (saysBuilt b)) head position r head′ position′
     → TellsBuild input work table head position r work′ table′ head′ position′
-tells-build input work table head position b r work′ table′ head′ position′ builds where-told =
+tells-build {input} {work} {head = head} {table = table} {position = position} builds where-told =
     let reply = build input (length work) (length table) in
-    let says = ap (told headNumbers) (builds .answer) ∙ told-told headNumbers (λ a. a .0) reply in
+    let says = head-said reply (builds .answer) in
     record {
-      number = where-told .tells .number ∙ ap code says ∙ code-told (λ a. headNumbers (a .0)) reply;
+      number = number-said (λ a. headNumbers (a .0)) reply (where-told .tells .number) says;
       worked = builds .worked;
       written = builds .written;
       shown = where-told .tells .shown ∙ ap (λ x. answerAfter x head) says;
@@ -79,58 +80,58 @@ tells-build input work table head position b r work′ table′ head′ position
     }
 
 -- text to tree, and tree to text
-pub tells-conversion : (Right : Reply (List ℕ) → Type 0) (out : List ℕ) (bytes : ℕ) (c : Converted) (r : ℕ) (out′ : List ℕ) (bytes′ : ℕ)
-    → Converts Right out c out′ → Tells (saysConverted c) bytes r bytes′ → TellsConversion Right out bytes r out′ bytes′
-tells-conversion Right out bytes c r out′ bytes′ converts tells = record {
+pub tells-conversion : {Right : Reply (List ℕ) → Type 0} {out out′ : List ℕ} {bytes bytes′ r : ℕ} {c : Converted} → Converts Right out c out′
+    → Tells (saysConverted c) bytes r bytes′ → TellsConversion Right out bytes r out′ bytes′
+tells-conversion {bytes = bytes} converts tells = record {
   reply = converts .reply;
   right = converts .right;
-  number = tells .number ∙ ap code (converts .answer) ∙ code-told length (converts .reply);
+  number = number-said length (converts .reply) (tells .number) (converts .answer);
   written = converts .written;
   shown = tells .shown ∙ ap (λ x. answerAfter x bytes) (converts .answer);
 }
 
 -- the questions. What is asked is asked of the head that the numbers say
-module _ (head : List ℕ) (table : List Record) (work : List ℕ) where
-  pub tells-count : (rows : ℕ) (c : Counted) (r : ℕ) (work′ : List ℕ) (rows′ : ℕ) → Counts (headOf head) table work c work′
-      → Tells (saysCounted c) rows r rows′ → TellsCount head table work rows r work′ rows′
-  tells-count rows c r work′ rows′ counts tells = record {
+module _ {head : List ℕ} {table : List Record} {work work′ : List ℕ} {r : ℕ} where
+  pub tells-count : {rows rows′ : ℕ} {c : Counted} → Counts (headOf head) table work c work′ → Tells (saysCounted c) rows r rows′
+      → TellsCount head table work rows r work′ rows′
+  tells-count {rows} counts tells = record {
     number = tells .number ∙ ap code (counts .answer);
     worked = counts .worked;
     shown = tells .shown ∙ ap (λ x. answerAfter x rows) (counts .answer);
   }
 
-  pub tells-row : (n : ℕ) (row : List ℕ) (w : Written) (r : ℕ) (work′ row′ : List ℕ) → Numbers (headOf head) table work n row w work′ row′
-      → r ≡ code (saysWritten w) → TellsRow head table work n row r work′ row′
-  tells-row n row w r work′ row′ numbers says = record {
-    number = says ∙ ap code (numbers .answer) ∙ code-told (λ _. tt) (rowByNumber (headOf head) table (length work) n (length row));
+  pub tells-row : {n : ℕ} {row row′ : List ℕ} {w : Written} → Numbers (headOf head) table work n row w work′ row′ → r ≡ code (saysWritten w)
+      → TellsRow head table work n row r work′ row′
+  tells-row {n} {row} numbers says = record {
+    number = number-said (λ _. tt) (rowByNumber (headOf head) table (length work) n (length row)) says (numbers .answer);
     worked = numbers .worked;
     written = numbers .written;
   }
 
-  pub tells-member : (row : Row) (listed : ℕ) (m : Member) (r : ℕ) (work′ : List ℕ) (listed′ : ℕ) → Members (headOf head) table work row m work′
+  pub tells-member : {row : Row} {listed listed′ : ℕ} {m : Member} → Members (headOf head) table work row m work′
       → Tells (told listedNumber (saysMember m)) listed r listed′ → TellsMember head table work row listed r work′ listed′
-  tells-member row listed m r work′ listed′ members tells = record {
-    number = tells .number ∙ code-told listedNumber (saysMember m) ∙ ap code (members .answer);
+  tells-member {listed = listed} {m = m} members tells = record {
+    number = number-said listedNumber (saysMember m) (tells .number) refl ∙ ap code (members .answer);
     worked = members .worked;
     shown = tells .shown ∙ ap (λ x. answerAfter (told listedNumber x) listed) (members .answer);
   }
 
-  pub tells-project : (place : ℕ) (marks : List ℕ) (p : Projected) (r : ℕ) (work′ marks′ : List ℕ)
-      → Projects (headOf head) table work place marks p work′ marks′ → r ≡ code (saysProjected p) → TellsProject head table work place marks r work′ marks′
-  tells-project place marks p r work′ marks′ projects says = record {
-    number = says ∙ ap code (projects .answer) ∙ code-told (λ _. tt) (project (headOf head) table (length work) place (length marks));
+  pub tells-project : {place : ℕ} {marks marks′ : List ℕ} {p : Projected} → Projects (headOf head) table work place marks p work′ marks′
+      → r ≡ code (saysProjected p) → TellsProject head table work place marks r work′ marks′
+  tells-project {place} {marks} projects says = record {
+    number = number-said (λ _. tt) (project (headOf head) table (length work) place (length marks)) says (projects .answer);
     worked = projects .worked;
     written = projects .written;
   }
 
-  pub tells-fix : (place n : ℕ) (target : List Record) (fixed : List ℕ) (f : Fixed) (r : ℕ) (work′ : List ℕ) (target′ : List Record) (fixed′ : List ℕ)
+  pub tells-fix : {place n : ℕ} {target target′ : List Record} {fixed fixed′ : List ℕ} {f : Fixed}
       → Fixes (headOf head) table work place n target f work′ target′ → Tells (told headNumbers (saysFixed f)) fixed r fixed′
       → TellsFix head table work place n target fixed r work′ target′ fixed′
-  tells-fix place n target fixed f r work′ target′ fixed′ fixes tells =
+  tells-fix {place} {n} {target} {fixed = fixed} fixes tells =
       let reply = fix (headOf head) table (length work) place n (length target) in
-      let says = ap (told headNumbers) (fixes .answer) ∙ told-told headNumbers (λ a. a .0) reply in
+      let says = head-said reply (fixes .answer) in
       record {
-        number = tells .number ∙ ap code says ∙ code-told (λ a. headNumbers (a .0)) reply;
+        number = number-said (λ a. headNumbers (a .0)) reply (tells .number) says;
         worked = fixes .worked;
         written = fixes .written;
         shown = tells .shown ∙ ap (λ x. answerAfter x fixed) says;

@@ -5,17 +5,8 @@ use Rattle.list.specs.Listing.{headOf}
 use Rattle.list.proofs.head_of.Statement.{statement}
 use Rattle.list.proofs.head_of.Tie as tie
 
-enum-known-built : tie.Need-enum-known-built
-enum-known-built c = search needs
-
-enum-told : tie.Need-enum-told
-enum-told c = search needs
-
-returns : tie.Need-returns
-returns c = search needs
-
 returns-2 : tie.Need-returns-2
 returns-2 c = sym (ap headOf (c .enum-told .given .1))
 
 pub head-of-spec : {M : Type 1} → statement M
-head-of-spec = tie.close (tie.spec enum-known-built enum-told returns returns-2)
+head-of-spec = tie.close (tie.spec (λ c. search needs) (λ c. search needs) (λ c. search needs) returns-2)

@@ -6,15 +6,6 @@ use Rattle.list.proofs.Telling.{lists-all, lists-waits}
 use Rattle.list.proofs.tell.Statement.{statement}
 use Rattle.list.proofs.tell.Tie as tie
 
-answer-requires : tie.Need-answer-requires
-answer-requires c κs = search needs
-
-has-failed-requires : tie.Need-has-failed-requires
-has-failed-requires c κs = search needs
-
-same-length : tie.Need-same-length
-same-length c = search needs
-
 returns : tie.Need-returns
 returns c =
     record { all = λ fine. absurd (true≢false (sym (c .if1 .taken) ∙ c .before .has-failed .ensures ∙ fine)) }
@@ -27,9 +18,6 @@ pass-on-requires c κs =
     let fine = sym (branch .before .has-failed .ensures) ∙ branch .if1 .left in
     lists-waits input (said .result) _ (said .ensures) fine
 
-same-length-2 : tie.Need-same-length-2
-same-length-2 c = search needs
-
 returns-2 : tie.Need-returns-2
 returns-2 c =
     let branch = c .before .before .before .before .before in
@@ -40,4 +28,4 @@ returns-2 c =
     lists-all input (said .result) _ (said .ensures) fine (last .result) _ (last .ensures)
 
 pub tell-spec : {M : Type 1} → statement M
-tell-spec = tie.close (tie.spec answer-requires has-failed-requires same-length returns pass-on-requires same-length-2 returns-2)
+tell-spec = tie.close (tie.spec (λ c κs. search needs) (λ c κs. search needs) (λ c. search needs) returns pass-on-requires (λ c. search needs) returns-2)

@@ -7,21 +7,6 @@ use Rattle.tarnsatchel.proofs.Telling.{tells-built, tells-refused}
 use Rattle.tarnsatchel.proofs.tell_build.Statement.{statement}
 use Rattle.tarnsatchel.proofs.tell_build.Tie as tie
 
-enum-known-built : tie.Need-enum-known-built
-enum-known-built c = search needs
-
-tell-position-requires : tie.Need-tell-position-requires
-tell-position-requires c κs = search needs
-
-number-requires : tie.Need-number-requires
-number-requires c κs = search needs
-
-enum-known-built-2 : tie.Need-enum-known-built-2
-enum-known-built-2 c = search needs
-
-numbers-of-requires : tie.Need-numbers-of-requires
-numbers-of-requires c κs = search needs
-
 returns : tie.Need-returns
 returns c =
     let a = c .before .before .before .before .before .before .args in
@@ -37,11 +22,5 @@ returns-2 c =
 pub tell-build-spec : {M : Type 1} → statement M
 tell-build-spec =
     tie.close
-    (tie.spec
-    enum-known-built
-    tell-position-requires
-    number-requires
-    enum-known-built-2
-    numbers-of-requires
-    returns
+    (tie.spec (λ c. search needs) (λ c κs. search needs) (λ c κs. search needs) (λ c. search needs) (λ c κs. search needs) returns
     returns-2)

@@ -7,25 +7,10 @@ use Rattle.tarnsatchel.proofs.Telling.{tells-answer}
 use Rattle.tarnsatchel.proofs.tell_fix.Statement.{statement}
 use Rattle.tarnsatchel.proofs.tell_fix.Tie as tie
 
-enum-known-answer : tie.Need-enum-known-answer
-enum-known-answer c = search needs
-
-number-requires : tie.Need-number-requires
-number-requires c κs = search needs
-
-enum-known-answer-2 : tie.Need-enum-known-answer-2
-enum-known-answer-2 c = search needs
-
-numbers-of-requires : tie.Need-numbers-of-requires
-numbers-of-requires c κs = search needs
-
-returns : tie.Need-returns
-returns c = search needs
-
 returns-2 : tie.Need-returns-2
 returns-2 c =
     let k = c .before .before in
     tells-answer (k .before .before .args .fixed .now) (ap (λ x. told headNumbers (saysFixed x)) (k .answer2 .given .1)) (c .numbers-of .ensures)
 
 pub tell-fix-spec : {M : Type 1} → statement M
-tell-fix-spec = tie.close (tie.spec enum-known-answer number-requires enum-known-answer-2 numbers-of-requires returns returns-2)
+tell-fix-spec = tie.close (tie.spec (λ c. search needs) (λ c κs. search needs) (λ c. search needs) (λ c κs. search needs) (λ c. search needs) returns-2)

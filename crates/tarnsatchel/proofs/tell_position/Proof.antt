@@ -6,15 +6,6 @@ use Rattle.tarnsatchel.proofs.Telling.{none-said, position-said}
 use Rattle.tarnsatchel.proofs.tell_position.Statement.{statement}
 use Rattle.tarnsatchel.proofs.tell_position.Tie as tie
 
-position-requires : tie.Need-position-requires
-position-requires c κs = search needs
-
-enum-known-at : tie.Need-enum-known-at
-enum-known-at c = search needs
-
-enum-told : tie.Need-enum-told
-enum-told c = search needs
-
 returns : tie.Need-returns
 returns c =
     let call = c .before .before .before in
@@ -28,4 +19,4 @@ returns-2 c =
     none-said (noOfStream (a .why)) (a .position .now) (ap saysPosition (sym (c .enum-told .given .1)) ∙ call .position .ensures)
 
 pub tell-position-spec : {M : Type 1} → statement M
-tell-position-spec = tie.close (tie.spec position-requires enum-known-at enum-told returns returns-2)
+tell-position-spec = tie.close (tie.spec (λ c κs. search needs) (λ c. search needs) (λ c. search needs) returns returns-2)

@@ -6,24 +6,6 @@ use Rattle.list.specs.Text.{recordsWord, rowsWord}
 use Rattle.list.proofs.page.facts.Statement.{statement}
 use Rattle.list.proofs.page.facts.Tie as tie
 
-cast-records : tie.Need-cast-records
-cast-records c = search needs
-
-slice-aggregate-put-fact : tie.Need-slice-aggregate-put-fact
-slice-aggregate-put-fact c = search needs
-
-put-fact-requires : tie.Need-put-fact-requires
-put-fact-requires c κs = search needs
-
-slice-aggregate-put-fact-2 : tie.Need-slice-aggregate-put-fact-2
-slice-aggregate-put-fact-2 c = search needs
-
-put-fact-requires-2 : tie.Need-put-fact-requires-2
-put-fact-requires-2 c κs = search needs
-
-same-length : tie.Need-same-length
-same-length c = search needs
-
 returns : tie.Need-returns
 returns c =
     let start = c .before .before .before .before .before .before .before .before .before .before .before .before in
@@ -40,4 +22,4 @@ returns c =
 pub facts-spec : {M : Type 1} → statement M
 facts-spec =
     tie.close
-    (tie.spec cast-records slice-aggregate-put-fact put-fact-requires slice-aggregate-put-fact-2 put-fact-requires-2 same-length returns)
+    (tie.spec (λ c. search needs) (λ c. search needs) (λ c κs. search needs) (λ c. search needs) (λ c κs. search needs) (λ c. search needs) returns)

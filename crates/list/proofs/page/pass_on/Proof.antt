@@ -7,17 +7,11 @@ use Rattle.list.proofs.Waiting.{due, passed}
 use Rattle.list.proofs.page.pass_on.Statement.{statement}
 use Rattle.list.proofs.page.pass_on.Tie as tie
 
-slice-relend-prefix-hand-on : tie.Need-slice-relend-prefix-hand-on
-slice-relend-prefix-hand-on c = search needs
-
 slice-aggregate-hand-on : tie.Need-slice-aggregate-hand-on
 slice-aggregate-hand-on c = search (needs, count-taken)
 
 hand-on-requires : tie.Need-hand-on-requires
 hand-on-requires c κs = search (needs, due)
-
-same-length : tie.Need-same-length
-same-length c = search needs
 
 returns : tie.Need-returns
 returns c =
@@ -26,4 +20,4 @@ returns c =
     passed (start .args .t) (call .result) (omega (arith, call .ensures, length-take-le (start .args .t .bytes) (start .args .text .now) (start .pre .within)))
 
 pub pass-on-spec : {M : Type 1} → statement M
-pass-on-spec = tie.close (tie.spec slice-relend-prefix-hand-on slice-aggregate-hand-on hand-on-requires same-length returns)
+pass-on-spec = tie.close (tie.spec (λ c. search needs) slice-aggregate-hand-on hand-on-requires (λ c. search needs) returns)

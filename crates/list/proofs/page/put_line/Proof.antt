@@ -9,18 +9,6 @@ use Rattle.list.proofs.Waiting.{room-made, waits-room}
 use Rattle.list.proofs.page.put_line.Statement.{statement}
 use Rattle.list.proofs.page.put_line.Tie as tie
 
-enum-told : tie.Need-enum-told
-enum-told c = search needs
-
-enum-told-2 : tie.Need-enum-told-2
-enum-told-2 c = search needs
-
-make-room-requires : tie.Need-make-room-requires
-make-room-requires c κs = search needs
-
-has-failed-requires : tie.Need-has-failed-requires
-has-failed-requires c κs = search needs
-
 put-row-requires : tie.Need-put-row-requires
 put-row-requires c κs =
     let branch = c .before in
@@ -37,16 +25,10 @@ put-row-requires c κs =
       ),
     )
 
-add-next : tie.Need-add-next
-add-next c = search needs
-
 returns : tie.Need-returns
 returns c =
     let a = c .before .before .before .before .before .args in
     lines-refused (a .t) (a .written) _ (a .row .now) (a .text .now) _ (c .enum-told .given .1)
-
-same-length : tie.Need-same-length
-same-length c = search needs
 
 returns-2 : tie.Need-returns-2
 returns-2 c =
@@ -56,9 +38,6 @@ returns-2 c =
     let a = start .args in
     let failed = sym (branch .before .has-failed .ensures) ∙ branch .if1 .taken in
     lines-failed (a .t) (a .written) (branch .before .before .before .before .before .before .before .enum-told2 .given .1) (a .row .now) (a .text .now) _ _ (start .pre .waits .fine) (made .ensures) failed _
-
-same-length-2 : tie.Need-same-length-2
-same-length-2 c = search needs
 
 returns-3 : tie.Need-returns-3
 returns-3 c =
@@ -72,15 +51,5 @@ returns-3 c =
 pub put-line-spec : {M : Type 1} → statement M
 put-line-spec =
     tie.close
-    (tie.spec
-    enum-told
-    enum-told-2
-    make-room-requires
-    has-failed-requires
-    put-row-requires
-    add-next
-    returns
-    same-length
-    returns-2
-    same-length-2
-    returns-3)
+    (tie.spec (λ c. search needs) (λ c. search needs) (λ c κs. search needs) (λ c κs. search needs) put-row-requires (λ c. search needs)
+    returns (λ c. search needs) returns-2 (λ c. search needs) returns-3)

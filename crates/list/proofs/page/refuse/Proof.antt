@@ -7,15 +7,6 @@ use Rattle.lines.proofs.Putting.{puts-refusal, refusal-short}
 use Rattle.list.proofs.page.refuse.Statement.{statement}
 use Rattle.list.proofs.page.refuse.Tie as tie
 
-put-refusal-requires : tie.Need-put-refusal-requires
-put-refusal-requires c κs = search needs
-
-nothing-requires : tie.Need-nothing-requires
-nothing-requires c κs = search needs
-
-same-length : tie.Need-same-length
-same-length c = search needs
-
 returns : tie.Need-returns
 returns c =
     let start = c .before .before .before .before .before .before in
@@ -26,4 +17,4 @@ returns c =
     record { stands = put .stands; bytes = omega (arith, put .ends, short); unhanded = c .nothing .ensures; stops = refl }
 
 pub refuse-spec : {M : Type 1} → statement M
-refuse-spec = tie.close (tie.spec put-refusal-requires nothing-requires same-length returns)
+refuse-spec = tie.close (tie.spec (λ c κs. search needs) (λ c κs. search needs) (λ c. search needs) returns)

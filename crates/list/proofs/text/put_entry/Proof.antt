@@ -9,27 +9,12 @@ use Rattle.list.proofs.Putting.{puts-first, puts-later}
 use Rattle.list.proofs.text.put_entry.Statement.{statement}
 use Rattle.list.proofs.text.put_entry.Tie as tie
 
-put-number-requires : tie.Need-put-number-requires
-put-number-requires c κs = search needs
-
-same-length : tie.Need-same-length
-same-length c = search needs
-
 returns : tie.Need-returns
 returns c =
     let start = c .before .before .before .before .before .before in
     let a = start .args in
     puts-first (a .place) (a .n) (omega (arith, c .before .before .before .before .if1 .taken))
     (puts (numberText (a .n)) (a .at) (a .text .now) (omega (arith, start .pre .0, number-short (a .n))) (c .before .before .put-number .ensures))
-
-put-byte-requires : tie.Need-put-byte-requires
-put-byte-requires c κs = search needs
-
-put-number-requires-2 : tie.Need-put-number-requires-2
-put-number-requires-2 c κs = search needs
-
-same-length-2 : tie.Need-same-length-2
-same-length-2 c = search needs
 
 returns-2 : tie.Need-returns-2
 returns-2 c =
@@ -43,4 +28,4 @@ returns-2 c =
 pub put-entry-spec : {M : Type 1} → statement M
 put-entry-spec =
     tie.close
-    (tie.spec put-number-requires same-length returns put-byte-requires put-number-requires-2 same-length-2 returns-2)
+    (tie.spec (λ c κs. search needs) (λ c. search needs) returns (λ c κs. search needs) (λ c κs. search needs) (λ c. search needs) returns-2)

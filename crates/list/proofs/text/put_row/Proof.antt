@@ -8,15 +8,6 @@ use Rattle.list.proofs.Putting.{row-short}
 use Rattle.list.proofs.text.put_row.Statement.{statement}
 use Rattle.list.proofs.text.put_row.Tie as tie
 
-put-entries-requires : tie.Need-put-entries-requires
-put-entries-requires c κs = search needs
-
-put-byte-requires : tie.Need-put-byte-requires
-put-byte-requires c κs = search needs
-
-same-length : tie.Need-same-length
-same-length c = search needs
-
 returns : tie.Need-returns
 returns c =
     let start = c .before .before .before .before .before .before .before .before .before .before in
@@ -28,4 +19,4 @@ returns c =
     (c .before .before .put-byte .ensures))
 
 pub put-row-spec : {M : Type 1} → statement M
-put-row-spec = tie.close (tie.spec put-entries-requires put-byte-requires same-length returns)
+put-row-spec = tie.close (tie.spec (λ c κs. search needs) (λ c κs. search needs) (λ c. search needs) returns)
