@@ -14,15 +14,6 @@ use Rattle.lines.proofs.put_byte.Tie as tie
 returns : tie.Need-returns
 returns c = put-left-out _ _ _ (omega arith)
 
-slice-write-text : tie.Need-slice-write-text
-slice-write-text c = search needs
-
-add-result : tie.Need-add-result
-add-result c = search needs
-
-same-length : tie.Need-same-length
-same-length c = search needs
-
 returns-2 : tie.Need-returns-2
 returns-2 c =
     let a = c .before .args in
@@ -33,4 +24,4 @@ returns-2 c =
     ∙ sym (set-split (a .text .now) (a .at) (a .byte) (omega arith)))
 
 pub put-byte-spec : {M : Type 1} → statement M
-put-byte-spec = tie.close (tie.spec returns slice-write-text add-result same-length returns-2)
+put-byte-spec = tie.close (tie.spec returns (λ c. search needs) (λ c. search needs) (λ c. search needs) returns-2)

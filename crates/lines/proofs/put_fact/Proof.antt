@@ -8,18 +8,6 @@ use Rattle.lines.specs.Text.{numberText}
 use Rattle.lines.proofs.put_fact.Statement.{statement}
 use Rattle.lines.proofs.put_fact.Tie as tie
 
-put-word-requires : tie.Need-put-word-requires
-put-word-requires c κs = search needs
-
-put-number-requires : tie.Need-put-number-requires
-put-number-requires c κs = search needs
-
-put-byte-requires : tie.Need-put-byte-requires
-put-byte-requires c κs = search needs
-
-same-length : tie.Need-same-length
-same-length c = search needs
-
 returns : tie.Need-returns
 returns c =
     let number = c .before .before .before .before .before .before .put-number in
@@ -29,4 +17,4 @@ returns c =
     ∙ c .before .before .put-byte .ensures
 
 pub put-fact-spec : {M : Type 1} → statement M
-put-fact-spec = tie.close (tie.spec put-word-requires put-number-requires put-byte-requires same-length returns)
+put-fact-spec = tie.close (tie.spec (λ c κs. search needs) (λ c κs. search needs) (λ c κs. search needs) (λ c. search needs) returns)

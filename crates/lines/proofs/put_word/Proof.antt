@@ -82,19 +82,5 @@ returns-3 c =
 pub put-word-spec : {M : Type 1} → statement M
 put-word-spec =
     tie.close
-    (tie.spec
-    Inv-loop
-    μ-loop
-    returns
-    sub-if2
-    returns-2
-    loop-holds
-    shared-slice-read-text
-    add-text
-    slice-write-text
-    add-i
-    loop-less
-    loop-again
-    add-result
-    same-length
-    returns-3)
+    (tie.spec Inv-loop μ-loop returns sub-if2 returns-2 loop-holds shared-slice-read-text add-text slice-write-text add-i loop-less
+    loop-again add-result same-length returns-3)

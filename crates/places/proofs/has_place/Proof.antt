@@ -8,12 +8,6 @@ use borrow.Author.Needs.{needs}
 use Rattle.places.proofs.has_place.Statement.{statement}
 use Rattle.places.proofs.has_place.Tie as tie
 
-cast-result : tie.Need-cast-result
-cast-result c = search needs
-
-shr-result : tie.Need-shr-result
-shr-result c = search needs
-
 returns : tie.Need-returns
 returns c = shifted (c .before .args .flag) (c .before .args .index)
 
@@ -23,4 +17,4 @@ returns-2 c =
     le-ltb (a .index) 16 (c .if1 .left) ∙ sym (beyond (a .index) (a .flag) (omega arith) (c .if1 .left))
 
 pub has-place-spec : {M : Type 1} → statement M
-has-place-spec = tie.close (tie.spec cast-result shr-result returns returns-2)
+has-place-spec = tie.close (tie.spec (λ c. search needs) (λ c. search needs) returns returns-2)

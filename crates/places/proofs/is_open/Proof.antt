@@ -11,16 +11,10 @@ returns c = rw (lt-leb 1 (c .before .args .place) (c .if1 .taken))
 returns-2 : tie.Need-returns-2
 returns-2 c = let a = c .before .before .before .args in rw (le-leb 1 (a .place) (omega arith), lt-leb (a .place) (a .head .arity) (omega arith))
 
-cast-has-place : tie.Need-cast-has-place
-cast-has-place c = search needs
-
-has-place-requires : tie.Need-has-place-requires
-has-place-requires c κs = search needs
-
 returns-3 : tie.Need-returns-3
 returns-3 c =
     let a = c .before .before .before .before .args in
     rw (le-leb 1 (a .place) (omega arith), le-leb (a .place) (a .head .arity) (omega arith)) (c .has-place .ensures)
 
 pub is-open-spec : {M : Type 1} → statement M
-is-open-spec = tie.close (tie.spec returns returns-2 cast-has-place has-place-requires returns-3)
+is-open-spec = tie.close (tie.spec returns returns-2 (λ c. search needs) (λ c κs. search needs) returns-3)

@@ -8,12 +8,6 @@ use Rattle.places.proofs.Flags.{beyond, place-taken}
 use Rattle.places.proofs.without_place.Statement.{statement}
 use Rattle.places.proofs.without_place.Tie as tie
 
-cast-result : tie.Need-cast-result
-cast-result c = search needs
-
-shl-result : tie.Need-shl-result
-shl-result c = search needs
-
 sub-result : tie.Need-sub-result
 sub-result c = and-le-l (c .before .args .flag) _
 
@@ -26,4 +20,4 @@ returns-2 c =
     sym (without-same (a .index) (a .flag) (beyond (a .index) (a .flag) (omega arith) (c .if1 .left)))
 
 pub without-place-spec : {M : Type 1} → statement M
-without-place-spec = tie.close (tie.spec cast-result shl-result sub-result returns returns-2)
+without-place-spec = tie.close (tie.spec (λ c. search needs) (λ c. search needs) sub-result returns returns-2)

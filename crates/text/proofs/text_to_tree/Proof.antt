@@ -20,31 +20,10 @@ inside m =
 copy-to-start-requires : tie.Need-copy-to-start-requires
 copy-to-start-requires c κs = search (needs, part-fits, part-fits-more)
 
-slice-aggregate-read-text : tie.Need-slice-aggregate-read-text
-slice-aggregate-read-text c = search needs
-
-slice-aggregate-read-text-2 : tie.Need-slice-aggregate-read-text-2
-slice-aggregate-read-text-2 c = search needs
-
-read-text-requires : tie.Need-read-text-requires
-read-text-requires c κs = search needs
-
-is-whole-requires : tie.Need-is-whole-requires
-is-whole-requires c κs = search needs
-
 returns : tie.Need-returns
 returns c =
     let k = c .before in
     text-refused _ _ _ _ (k .before .before .before .read-text .ensures) _ (sym (not-true _ (c .if1 .taken)) ∙ k .is-whole .ensures)
-
-slice-aggregate-end-siblings : tie.Need-slice-aggregate-end-siblings
-slice-aggregate-end-siblings c = search needs
-
-slice-aggregate-end-siblings-2 : tie.Need-slice-aggregate-end-siblings-2
-slice-aggregate-end-siblings-2 c = search needs
-
-end-siblings-requires : tie.Need-end-siblings-requires
-end-siblings-requires c κs = search needs
 
 returns-2 : tie.Need-returns-2
 returns-2 c =
@@ -53,16 +32,10 @@ returns-2 c =
     output-short _ _ _ _ (k .before .before .before .read-text .ensures) (sym (not-false _ (m .before .before .before .if1 .left)) ∙ k .is-whole .ensures)
     _ _ (m .end-siblings .ensures) _ (c .if2 .taken)
 
-array-share-prefix-image : tie.Need-array-share-prefix-image
-array-share-prefix-image c = search needs
-
 slice-aggregate-copy-to-start : tie.Need-slice-aggregate-copy-to-start
 slice-aggregate-copy-to-start c =
     let m = c .before .before .before in
     sym (length-take-le _ _ (inside m))
-
-same-length : tie.Need-same-length
-same-length c = search needs
 
 returns-3 : tie.Need-returns-3
 returns-3 c =
@@ -74,18 +47,6 @@ returns-3 c =
 pub text-to-tree-spec : {M : Type 1} → statement M
 text-to-tree-spec =
     tie.close
-    (tie.spec
-    slice-aggregate-read-text
-    slice-aggregate-read-text-2
-    read-text-requires
-    is-whole-requires
-    returns
-    slice-aggregate-end-siblings
-    slice-aggregate-end-siblings-2
-    end-siblings-requires
-    returns-2
-    array-share-prefix-image
-    slice-aggregate-copy-to-start
-    copy-to-start-requires
-    same-length
-    returns-3)
+    (tie.spec (λ c. search needs) (λ c. search needs) (λ c κs. search needs) (λ c κs. search needs) returns (λ c. search needs)
+    (λ c. search needs) (λ c κs. search needs) returns-2 (λ c. search needs) slice-aggregate-copy-to-start copy-to-start-requires
+    (λ c. search needs) returns-3)

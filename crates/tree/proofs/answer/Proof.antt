@@ -8,12 +8,6 @@ use Rattle.tree.proofs.Telling.{answered-stands, line-stands, refused-t
 use Rattle.tree.proofs.answer.Statement.{statement}
 use Rattle.tree.proofs.answer.Tie as tie
 
-put-refusal-requires : tie.Need-put-refusal-requires
-put-refusal-requires c κs = search needs
-
-same-length : tie.Need-same-length
-same-length c = search needs
-
 returns : tie.Need-returns
 returns c =
     let start = c .before .before .before .before .before .before .before in
@@ -21,30 +15,12 @@ returns c =
     line-stands (start .args .input .now) (no 14) (T.too-long (omega (arith, c .before .before .before .before .if1 .taken))) (start .args .out .now) (start .pre)
     (omega (arith, call .kept .0, start .pre)) (call .ensures)
 
-text-to-tree-requires : tie.Need-text-to-tree-requires
-text-to-tree-requires c κs = search needs
-
-enum-known-converted : tie.Need-enum-known-converted
-enum-known-converted c = search needs
-
-enum-known-converted-2 : tie.Need-enum-known-converted-2
-enum-known-converted-2 c = search needs
-
-put-refusal-requires-2 : tie.Need-put-refusal-requires-2
-put-refusal-requires-2 c κs = search needs
-
-same-length-2 : tie.Need-same-length-2
-same-length-2 c = search needs
-
 returns-2 : tie.Need-returns-2
 returns-2 c =
     let start = c .before .before .before .before .before .before .before .before .before .before in
     let call = c .before .before .before .before .before .text-to-tree in
     answered-stands (start .args .input .now) (start .args .out .now) (omega (arith, c .before .before .before .before .before .before .before .if1 .left)) (start .pre) (call .result) (call .last .1 .0) (call .ensures) _
     (c .before .converted .given .1) (omega (arith, call .kept .1 .0, start .pre))
-
-same-length-3 : tie.Need-same-length-3
-same-length-3 c = search needs
 
 returns-3 : tie.Need-returns-3
 returns-3 c =
@@ -59,15 +35,5 @@ returns-3 c =
 pub answer-spec : {M : Type 1} → statement M
 answer-spec =
     tie.close
-    (tie.spec
-    put-refusal-requires
-    same-length
-    returns
-    text-to-tree-requires
-    enum-known-converted
-    enum-known-converted-2
-    put-refusal-requires-2
-    same-length-2
-    returns-2
-    same-length-3
-    returns-3)
+    (tie.spec (λ c κs. search needs) (λ c. search needs) returns (λ c κs. search needs) (λ c. search needs) (λ c. search needs)
+    (λ c κs. search needs) (λ c. search needs) returns-2 (λ c. search needs) returns-3)

@@ -5,20 +5,8 @@ use Rattle.lines.proofs.Putting.{count-taken}
 use Rattle.tree.proofs.tell.Statement.{statement}
 use Rattle.tree.proofs.tell.Tie as tie
 
-answer-requires : tie.Need-answer-requires
-answer-requires c κs = search needs
-
-slice-relend-prefix-hand-on : tie.Need-slice-relend-prefix-hand-on
-slice-relend-prefix-hand-on c = search needs
-
 slice-aggregate-hand-on : tie.Need-slice-aggregate-hand-on
 slice-aggregate-hand-on c = search (needs, count-taken)
-
-hand-on-requires : tie.Need-hand-on-requires
-hand-on-requires c κs = search needs
-
-same-length : tie.Need-same-length
-same-length c = search needs
 
 returns : tie.Need-returns
 returns c =
@@ -28,4 +16,4 @@ returns c =
 pub tell-spec : {M : Type 1} → statement M
 tell-spec =
     tie.close
-    (tie.spec answer-requires slice-relend-prefix-hand-on slice-aggregate-hand-on hand-on-requires same-length returns)
+    (tie.spec (λ c κs. search needs) (λ c. search needs) slice-aggregate-hand-on (λ c κs. search needs) (λ c. search needs) returns)

@@ -11,15 +11,6 @@ small c =
     let start = c .before .before .before .before .before .before .before in
     head-fits (start .pre .0) (start .args .t) (start .pre .1) (start .pre .2) (c .if1 .left)
 
-cast-clear : tie.Need-cast-clear
-cast-clear c = search needs
-
-clear-requires : tie.Need-clear-requires
-clear-requires c κs = search needs
-
-same-length : tie.Need-same-length
-same-length c = search needs
-
 returns : tie.Need-returns
 returns c input first entries all s limit long rest =
     let done = c .before .before .before in
@@ -52,9 +43,6 @@ add-t8 c = omega (arith, small (c .before .before .before .before .before))
 cast-t15 : tie.Need-cast-t15
 cast-t15 c = omega (arith, small (c .before .before .before .before .before))
 
-same-length-2 : tie.Need-same-length-2
-same-length-2 c = search needs
-
 returns-2 : tie.Need-returns-2
 returns-2 c input first entries all s limit long rest =
     let number = c .before .before .before in
@@ -69,18 +57,5 @@ returns-2 c input first entries all s limit long rest =
 pub finish-spec : {M : Type 1} → statement M
 finish-spec =
     tie.close
-    (tie.spec
-    cast-clear
-    clear-requires
-    same-length
-    returns
-    flags-requires
-    sub-open-places
-    set-of-requires
-    cast-t12
-    cast-t13
-    cast-t14
-    add-t8
-    cast-t15
-    same-length-2
-    returns-2)
+    (tie.spec (λ c. search needs) (λ c κs. search needs) (λ c. search needs) returns flags-requires sub-open-places set-of-requires cast-t12
+    cast-t13 cast-t14 add-t8 cast-t15 (λ c. search needs) returns-2)

@@ -17,9 +17,6 @@ add-t9 c = omega arith
 add-t11 : tie.Need-add-t11
 add-t11 c = omega arith
 
-same-length : tie.Need-same-length
-same-length c = search needs
-
 returns : tie.Need-returns
 returns c =
     let put = c .before .before in
@@ -27,4 +24,4 @@ returns c =
     record-made (a .used) (a .k) (a .batch .now) (a .new) (put .put .last .0) (put .put .ensures)
 
 pub new-record-spec : {M : Type 1} → statement M
-new-record-spec = tie.close (tie.spec put-requires add-t8 add-t9 add-t11 same-length returns)
+new-record-spec = tie.close (tie.spec put-requires add-t8 add-t9 add-t11 (λ c. search needs) returns)

@@ -51,9 +51,6 @@ cast-t17 c = omega arith
 new-record-requires : tie.Need-new-record-requires
 new-record-requires c κs = omega arith
 
-same-length : tie.Need-same-length
-same-length c = search needs
-
 returns-3 : tie.Need-returns-3
 returns-3 c =
     let made = c .before .before in
@@ -65,14 +62,4 @@ returns-3 c =
 pub product-spec : {M : Type 1} → statement M
 product-spec =
     tie.close
-    (tie.spec
-    returns
-    returns-2
-    sub-t13
-    cast-t14
-    sub-t15
-    cast-t16
-    cast-t17
-    new-record-requires
-    same-length
-    returns-3)
+    (tie.spec returns returns-2 sub-t13 cast-t14 sub-t15 cast-t16 cast-t17 new-record-requires (λ c. search needs) returns-3)

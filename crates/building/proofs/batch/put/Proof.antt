@@ -51,30 +51,11 @@ mul-batch-5 c = omega arith
 slice-write-batch-5 : tie.Need-slice-write-batch-5
 slice-write-batch-5 c = simp length-set (omega arith)
 
-same-length : tie.Need-same-length
-same-length c = search needs
-
 returns : tie.Need-returns
 returns c = one-more (c .args .batch .now) (c .args .k) (c .args .new) (omega arith)
 
 pub put-spec : {M : Type 1} → statement M
 put-spec =
     tie.close
-    (tie.spec
-    mul-at
-    mul-batch
-    slice-write-batch
-    add-batch
-    mul-batch-2
-    slice-write-batch-2
-    add-batch-2
-    mul-batch-3
-    slice-write-batch-3
-    add-batch-3
-    mul-batch-4
-    slice-write-batch-4
-    add-batch-4
-    mul-batch-5
-    slice-write-batch-5
-    same-length
-    returns)
+    (tie.spec mul-at mul-batch slice-write-batch add-batch mul-batch-2 slice-write-batch-2 add-batch-2 mul-batch-3 slice-write-batch-3
+    add-batch-3 mul-batch-4 slice-write-batch-4 add-batch-4 mul-batch-5 slice-write-batch-5 (λ c. search needs) returns)

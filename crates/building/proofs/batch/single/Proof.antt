@@ -19,9 +19,6 @@ cast-t8 c = omega arith
 new-record-requires : tie.Need-new-record-requires
 new-record-requires c κs = omega arith
 
-same-length : tie.Need-same-length
-same-length c = search needs
-
 returns-2 : tie.Need-returns-2
 returns-2 c =
     let made = c .before .before in
@@ -31,4 +28,4 @@ returns-2 c =
     (made .new-record .ensures)
 
 pub single-spec : {M : Type 1} → statement M
-single-spec = tie.close (tie.spec returns cast-t8 new-record-requires same-length returns-2)
+single-spec = tie.close (tie.spec returns cast-t8 new-record-requires (λ c. search needs) returns-2)

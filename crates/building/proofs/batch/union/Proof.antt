@@ -45,9 +45,6 @@ cast-t16 c = omega arith
 new-record-requires : tie.Need-new-record-requires
 new-record-requires c κs = omega arith
 
-same-length : tie.Need-same-length
-same-length c = search needs
-
 returns-3 : tie.Need-returns-3
 returns-3 c =
     let made = c .before .before in
@@ -60,14 +57,4 @@ returns-3 c =
 pub union-spec : {M : Type 1} → statement M
 union-spec =
     tie.close
-    (tie.spec
-    returns
-    returns-2
-    sub-t12
-    cast-t13
-    sub-t14
-    cast-t15
-    cast-t16
-    new-record-requires
-    same-length
-    returns-3)
+    (tie.spec returns returns-2 sub-t12 cast-t13 sub-t14 cast-t15 cast-t16 new-record-requires (λ c. search needs) returns-3)

@@ -105,17 +105,5 @@ returns-2 c = ended (c .before) (inl (c .loop-test .left))
 pub fill-spec : {M : Type 1} → statement M
 fill-spec =
     tie.close
-    (tie.spec
-    Inv-loop
-    μ-loop
-    add-s
-    loop-holds
-    turn-requires
-    loop-less
-    loop-again
-    same-length
-    same-length-2
-    returns
-    same-length-3
-    same-length-4
-    returns-2)
+    (tie.spec Inv-loop μ-loop add-s loop-holds turn-requires loop-less loop-again same-length same-length-2 returns same-length-3
+    same-length-4 returns-2)

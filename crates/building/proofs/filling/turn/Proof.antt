@@ -81,21 +81,5 @@ returns-4 c =
 pub turn-spec : {M : Type 1} → statement M
 turn-spec =
     tie.close
-    (tie.spec
-    shared-slice-read-if2
-    leaf-rules-requires
-    same-length
-    same-length-2
-    returns
-    branch-rules-requires
-    same-length-3
-    same-length-4
-    returns-2
-    add-if3
-    next-node-requires
-    same-length-5
-    returns-3
-    roots-requires
-    same-length-6
-    same-length-7
-    returns-4)
+    (tie.spec shared-slice-read-if2 leaf-rules-requires same-length same-length-2 returns branch-rules-requires same-length-3 same-length-4
+    returns-2 add-if3 next-node-requires same-length-5 returns-3 roots-requires same-length-6 same-length-7 returns-4)

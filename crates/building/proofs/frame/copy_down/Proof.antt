@@ -69,18 +69,5 @@ returns c =
 pub copy-down-spec : {M : Type 1} → statement M
 copy-down-spec =
     tie.close
-    (tie.spec
-    Inv-loop
-    μ-loop
-    loop-holds
-    add-work
-    mul-work
-    slice-read-work
-    add-work-2
-    mul-work-2
-    slice-write-work
-    add-i
-    loop-less
-    loop-again
-    same-length
-    returns)
+    (tie.spec Inv-loop μ-loop loop-holds add-work mul-work slice-read-work add-work-2 mul-work-2 slice-write-work add-i loop-less loop-again
+    same-length returns)

@@ -5,11 +5,8 @@ use lib.Pow.{shl-exact}
 use Rattle.building.proofs.frame.flags.Statement.{statement}
 use Rattle.building.proofs.frame.flags.Tie as tie
 
-shl-result : tie.Need-shl-result
-shl-result c = search needs
-
 returns : tie.Need-returns
 returns c = omega (arith, shl-exact {a = 1} 1 (c .args .arity) 64 (omega arith) (omega arith))
 
 pub flags-spec : {M : Type 1} → statement M
-flags-spec = tie.close (tie.spec shl-result returns)
+flags-spec = tie.close (tie.spec (λ c. search needs) returns)

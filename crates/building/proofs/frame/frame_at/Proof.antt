@@ -12,9 +12,6 @@ frames : (c : tie.After-frame-width) → c .before .args .frame * c .frame-width
     ≡ c .before .args .frame * width (c .before .args .arity) (c .before .args .states)
 frames c = ap (λ x. c .before .args .frame * x) (c .frame-width .ensures)
 
-frame-width-requires : tie.Need-frame-width-requires
-frame-width-requires c κs = search needs
-
 mul-result : tie.Need-mul-result
 mul-result c =
     let start = c .before in
@@ -25,4 +22,4 @@ returns : tie.Need-returns
 returns c = frames c
 
 pub frame-at-spec : {M : Type 1} → statement M
-frame-at-spec = tie.close (tie.spec frame-width-requires mul-result returns)
+frame-at-spec = tie.close (tie.spec (λ c κs. search needs) mul-result returns)

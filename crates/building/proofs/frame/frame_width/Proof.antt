@@ -11,9 +11,6 @@ use Rattle.building.proofs.frame.frame_width.Tie as tie
 numbers : (c : tie.After-flags) → c .before .args .states * c .flags .result ≡ width (c .before .args .arity) (c .before .args .states)
 numbers c = ap (λ x. c .before .args .states * x) (c .flags .ensures)
 
-flags-requires : tie.Need-flags-requires
-flags-requires c κs = search needs
-
 mul-result : tie.Need-mul-result
 mul-result c =
     let a = c .before .args in
@@ -23,4 +20,4 @@ returns : tie.Need-returns
 returns c = numbers c
 
 pub frame-width-spec : {M : Type 1} → statement M
-frame-width-spec = tie.close (tie.spec flags-requires mul-result returns)
+frame-width-spec = tie.close (tie.spec (λ c κs. search needs) mul-result returns)

@@ -10,12 +10,6 @@ use Rattle.building.proofs.frame.shelf_at.Tie as tie
 shelves : (c : tie.After-flags) → c .before .before .args .state * c .flags .result ≡ c .before .before .args .state * 2 ^ c .before .before .args .arity
 shelves c = ap (λ x. c .before .before .args .state * x) (c .flags .ensures)
 
-frame-at-requires : tie.Need-frame-at-requires
-frame-at-requires c κs = search needs
-
-flags-requires : tie.Need-flags-requires
-flags-requires c κs = search needs
-
 mul-result : tie.Need-mul-result
 mul-result c =
     let start = c .before .before in
@@ -36,4 +30,4 @@ returns : tie.Need-returns
 returns c = omega (arith, shelves c)
 
 pub shelf-at-spec : {M : Type 1} → statement M
-shelf-at-spec = tie.close (tie.spec frame-at-requires flags-requires mul-result add-result returns)
+shelf-at-spec = tie.close (tie.spec (λ c κs. search needs) (λ c κs. search needs) mul-result add-result returns)

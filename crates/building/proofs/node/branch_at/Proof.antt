@@ -88,23 +88,6 @@ returns c =
 pub branch-at-spec : {M : Type 1} → statement M
 branch-at-spec =
     tie.close
-    (tie.spec
-    sub-shelf-at
-    add-shelf-at
-    shared-slice-read-shelf-at
-    cast-shelf-at
-    shelf-at-requires
-    sub-shelf-at-2
-    add-shelf-at-2
-    shared-slice-read-shelf-at-2
-    cast-shelf-at-2
-    shelf-at-requires-2
-    add-shelf-at-3
-    shared-slice-read-shelf-at-3
-    cast-shelf-at-3
-    shelf-at-requires-3
-    flags-requires
-    add-t8
-    shared-slice-read-t10
-    cast-t7
-    returns)
+    (tie.spec sub-shelf-at add-shelf-at shared-slice-read-shelf-at cast-shelf-at shelf-at-requires sub-shelf-at-2 add-shelf-at-2
+    shared-slice-read-shelf-at-2 cast-shelf-at-2 shelf-at-requires-2 add-shelf-at-3 shared-slice-read-shelf-at-3 cast-shelf-at-3
+    shelf-at-requires-3 flags-requires add-t8 shared-slice-read-t10 cast-t7 returns)

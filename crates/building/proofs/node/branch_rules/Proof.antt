@@ -145,20 +145,5 @@ returns c base f =
 pub branch-rules-spec : {M : Type 1} → statement M
 branch-rules-spec =
     tie.close
-    (tie.spec
-    Inv-loop
-    μ-loop
-    sub-notes
-    part-notes-start
-    part-notes-end
-    loop-holds
-    branch-at-requires
-    branch-rule-requires
-    sub-rule-after
-    rule-after-requires
-    loop-less
-    loop-again
-    count-records-requires
-    same-length
-    same-length-2
-    returns)
+    (tie.spec Inv-loop μ-loop sub-notes part-notes-start part-notes-end loop-holds branch-at-requires branch-rule-requires sub-rule-after
+    rule-after-requires loop-less loop-again count-records-requires same-length same-length-2 returns)

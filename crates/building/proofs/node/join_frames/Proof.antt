@@ -51,9 +51,6 @@ sub-result c =
     let start = branch .before .before .before .before in
     omega (arith, two-below (start .args .input .now) (start .args .t) (start .args .work .now) (start .pre .0) (start .pre .1) (branch .if1 .left))
 
-same-length : tie.Need-same-length
-same-length c = search needs
-
 returns-2 : tie.Need-returns-2
 returns-2 c made s =
     let copied = c .before .before .before in
@@ -68,15 +65,5 @@ returns-2 c made s =
 pub join-frames-spec : {M : Type 1} → statement M
 join-frames-spec =
     tie.close
-    (tie.spec
-    shared-slice-read-if1
-    add-result
-    returns
-    frame-at-requires
-    sub-frame-at
-    frame-at-requires-2
-    frame-width-requires
-    copy-down-requires
-    sub-result
-    same-length
-    returns-2)
+    (tie.spec shared-slice-read-if1 add-result returns frame-at-requires sub-frame-at frame-at-requires-2 frame-width-requires
+    copy-down-requires sub-result (λ c. search needs) returns-2)

@@ -198,27 +198,6 @@ returns c base f =
 pub leaf-rules-spec : {M : Type 1} → statement M
 leaf-rules-spec =
     tie.close
-    (tie.spec
-    Inv-loop
-    μ-loop
-    add-label
-    shared-slice-read-label
-    loop-holds
-    add-flag
-    shared-slice-read-flag
-    cast-flag
-    can-stand-requires
-    add-shelf-at
-    shared-slice-read-shelf-at
-    cast-shelf-at
-    shelf-at-requires
-    cast-leaf-rule
-    leaf-rule-requires
-    sub-rule-after
-    rule-after-requires
-    loop-less
-    loop-again
-    count-records-requires
-    same-length
-    same-length-2
-    returns)
+    (tie.spec Inv-loop μ-loop add-label shared-slice-read-label loop-holds add-flag shared-slice-read-flag cast-flag can-stand-requires
+    add-shelf-at shared-slice-read-shelf-at cast-shelf-at shelf-at-requires cast-leaf-rule leaf-rule-requires sub-rule-after
+    rule-after-requires loop-less loop-again count-records-requires same-length same-length-2 returns)

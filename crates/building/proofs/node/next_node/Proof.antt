@@ -16,12 +16,6 @@ ready c =
     let s = c .pre .0 .0 .1 in
     node-ready (c .args .input .now) (c .args .t) (c .args .work .now) (s .constants) (s .node) (s .frames .room)
 
-add-next : tie.Need-add-next
-add-next c = search needs
-
-add-next-2 : tie.Need-add-next-2
-add-next-2 c = search needs
-
 shared-slice-read-body-length : tie.Need-shared-slice-read-body-length
 shared-slice-read-body-length c = omega (arith, ready (c .before .before .before .before .before))
 
@@ -50,9 +44,6 @@ start-node-requires c κs =
       start .pre .0 .1,
     )
 
-same-length : tie.Need-same-length
-same-length c = search needs
-
 returns : tie.Need-returns
 returns c batch base f =
     let come = c .before .before in
@@ -71,13 +62,5 @@ returns c batch base f =
 pub next-node-spec : {M : Type 1} → statement M
 next-node-spec =
     tie.close
-    (tie.spec
-    add-next
-    add-next-2
-    shared-slice-read-body-length
-    body-length-requires
-    add-next-3
-    join-frames-requires
-    start-node-requires
-    same-length
-    returns)
+    (tie.spec (λ c. search needs) (λ c. search needs) shared-slice-read-body-length body-length-requires add-next-3 join-frames-requires
+    start-node-requires (λ c. search needs) returns)

@@ -28,17 +28,8 @@ shared-slice-read-first-rule c = omega (arith, ready (c .before .before .before 
 add-first-rule : tie.Need-add-first-rule
 add-first-rule c = omega (arith, ready (c .before .before .before .before .before .before .before .before .before .before))
 
-add-first-rule-2 : tie.Need-add-first-rule-2
-add-first-rule-2 c = search needs
-
 shared-slice-read-first-rule-2 : tie.Need-shared-slice-read-first-rule-2
 shared-slice-read-first-rule-2 c = omega (arith, ready (c .before .before .before .before .before .before .before .before .before .before .before))
-
-first-rule-requires : tie.Need-first-rule-requires
-first-rule-requires c κs = search needs
-
-same-length : tie.Need-same-length
-same-length c = search needs
 
 returns : tie.Need-returns
 returns c made s =
@@ -53,14 +44,5 @@ returns c made s =
 pub start-node-spec : {M : Type 1} → statement M
 start-node-spec =
     tie.close
-    (tie.spec
-    frame-at-requires
-    frame-width-requires
-    clear-requires
-    shared-slice-read-first-rule
-    add-first-rule
-    add-first-rule-2
-    shared-slice-read-first-rule-2
-    first-rule-requires
-    same-length
-    returns)
+    (tie.spec frame-at-requires frame-width-requires clear-requires shared-slice-read-first-rule add-first-rule (λ c. search needs)
+    shared-slice-read-first-rule-2 (λ c κs. search needs) (λ c. search needs) returns)

@@ -32,9 +32,6 @@ cast-last c =
           (united .unite-roots .last .1 .1 .1 .0) (united .unite-roots .ensures input (f .standing .constants) listed),
     )
 
-same-length : tie.Need-same-length
-same-length c = search needs
-
 returns : tie.Need-returns
 returns c input listed done base f =
     let united = c .before .before .before .before in
@@ -45,4 +42,4 @@ returns c input listed done base f =
     (c .before .count-records .ensures) refl
 
 pub roots-spec : {M : Type 1} → statement M
-roots-spec = tie.close (tie.spec unite-roots-requires count-records-requires cast-last same-length returns)
+roots-spec = tie.close (tie.spec unite-roots-requires count-records-requires cast-last (λ c. search needs) returns)

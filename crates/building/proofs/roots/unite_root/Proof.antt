@@ -16,9 +16,6 @@ ready c =
     let (made, s, few) = c .pre .0 .0 .1 .0 in
     root-ready (c .pre .0 .0 .0) (a .t) (a .work .now) made s (a .state) (c .pre .1 .0 .0)
 
-accepts-requires : tie.Need-accepts-requires
-accepts-requires c κs = search needs
-
 -- the state is one of 16
 small : (c : tie.Start) → c .args .state < mostStates
 small c = omega (arith, ready c, c .pre)
@@ -75,9 +72,6 @@ union-requires c κs =
       shelf .before .flags .ensures,
     )
 
-same-length : tie.Need-same-length
-same-length c = search needs
-
 returns-2 : tie.Need-returns-2
 returns-2 c =
     let shelf = c .before .before .before .before .before .before in
@@ -91,16 +85,5 @@ returns-2 c =
 pub unite-root-spec : {M : Type 1} → statement M
 unite-root-spec =
     tie.close
-    (tie.spec
-    accepts-requires
-    returns
-    flags-requires
-    sub-places
-    shelf-at-requires
-    add-at
-    cast-union
-    mul-union
-    shared-slice-read-union
-    union-requires
-    same-length
-    returns-2)
+    (tie.spec (λ c κs. search needs) returns flags-requires sub-places shelf-at-requires add-at cast-union mul-union shared-slice-read-union
+    union-requires (λ c. search needs) returns-2)

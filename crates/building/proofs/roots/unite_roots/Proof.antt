@@ -64,13 +64,4 @@ returns c =
 pub unite-roots-spec : {M : Type 1} → statement M
 unite-roots-spec =
     tie.close
-    (tie.spec
-    Inv-loop
-    μ-loop
-    loop-holds
-    unite-root-requires
-    add-state
-    loop-less
-    loop-again
-    same-length
-    returns)
+    (tie.spec Inv-loop μ-loop loop-holds unite-root-requires add-state loop-less loop-again same-length returns)

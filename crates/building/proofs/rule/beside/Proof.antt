@@ -169,26 +169,6 @@ returns-2 c =
 pub beside-spec : {M : Type 1} → statement M
 beside-spec =
     tie.close
-    (tie.spec
-    Inv-loop
-    μ-loop
-    add-here
-    mul-here
-    slice-read-here
-    returns
-    add-free-beside
-    mul-free-beside
-    slice-read-free-beside
-    free-beside-requires
-    loop-holds
-    cast-b2
-    add-there
-    mul-there
-    slice-read-there
-    split-requires
-    sub-marks
-    loop-less
-    loop-again
-    same-length
-    same-length-2
-    returns-2)
+    (tie.spec Inv-loop μ-loop add-here mul-here slice-read-here returns add-free-beside mul-free-beside slice-read-free-beside
+    free-beside-requires loop-holds cast-b2 add-there mul-there slice-read-there split-requires sub-marks loop-less loop-again same-length
+    same-length-2 returns-2)

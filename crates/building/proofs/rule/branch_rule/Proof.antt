@@ -117,21 +117,5 @@ returns-2 c = left-ends ((begin (c .before .before)) .pre .0 .0) (walked-free (c
 pub branch-rule-spec : {M : Type 1} → statement M
 branch-rule-spec =
     tie.close
-    (tie.spec
-    Inv-loop
-    μ-loop
-    mul-if1
-    slice-read-if1
-    returns
-    mul-free-marks
-    slice-read-free-marks
-    free-marks-requires
-    loop-holds
-    cast-b1
-    beside-requires
-    sub-marks
-    loop-less
-    loop-again
-    same-length
-    same-length-2
-    returns-2)
+    (tie.spec Inv-loop μ-loop mul-if1 slice-read-if1 returns mul-free-marks slice-read-free-marks free-marks-requires loop-holds cast-b1
+    beside-requires sub-marks loop-less loop-again same-length same-length-2 returns-2)

@@ -5,9 +5,6 @@ use Rattle.paper.specs.Tree.{padLabel}
 use Rattle.building.proofs.rule.can_stand.Statement.{statement}
 use Rattle.building.proofs.rule.can_stand.Tie as tie
 
-cast-result : tie.Need-cast-result
-cast-result c = search needs
-
 returns : tie.Need-returns
 returns c = rw (ne-eqb (c .before .args .label) padLabel (c .if1 .taken))
 
@@ -15,4 +12,4 @@ returns-2 : tie.Need-returns-2
 returns-2 c = rw (eq-eqb (c .before .args .label) padLabel (c .if1 .left))
 
 pub can-stand-spec : {M : Type 1} → statement M
-can-stand-spec = tie.close (tie.spec cast-result returns returns-2)
+can-stand-spec = tie.close (tie.spec (λ c. search needs) returns returns-2)

@@ -8,15 +8,6 @@ use Rattle.building.proofs.rule.leaf_rule.Tie as tie
 single-requires : tie.Need-single-requires
 single-requires c κs = omega arith
 
-put-set-requires : tie.Need-put-set-requires
-put-set-requires c κs = search needs
-
-same-length : tie.Need-same-length
-same-length c = search needs
-
-same-length-2 : tie.Need-same-length-2
-same-length-2 c = search needs
-
 returns : tie.Need-returns
 returns c =
     let put = c .before .before in
@@ -26,4 +17,4 @@ returns c =
 
 pub leaf-rule-spec : {M : Type 1} → statement M
 leaf-rule-spec =
-    tie.close (tie.spec single-requires put-set-requires same-length same-length-2 returns)
+    tie.close (tie.spec single-requires (λ c κs. search needs) (λ c. search needs) (λ c. search needs) returns)

@@ -56,16 +56,5 @@ returns c =
 pub split-spec : {M : Type 1} → statement M
 split-spec =
     tie.close
-    (tie.spec
-    cast-node
-    add-flag
-    add-flag-2
-    add-old
-    mul-old
-    slice-read-old
-    triple-requires
-    union-requires
-    put-set-requires
-    same-length
-    same-length-2
-    returns)
+    (tie.spec cast-node add-flag add-flag-2 add-old mul-old slice-read-old triple-requires union-requires put-set-requires same-length
+    same-length-2 returns)

@@ -23,9 +23,6 @@ add-flag-2 c = omega arith
 product-requires-2 : tie.Need-product-requires-2
 product-requires-2 c κs = omega arith
 
-same-length : tie.Need-same-length
-same-length c = search needs
-
 returns : tie.Need-returns
 returns c =
     let third = c .before .before in
@@ -38,12 +35,4 @@ returns c =
 pub triple-spec : {M : Type 1} → statement M
 triple-spec =
     tie.close
-    (tie.spec
-    cast-node
-    add-flag
-    single-requires
-    product-requires
-    add-flag-2
-    product-requires-2
-    same-length
-    returns)
+    (tie.spec cast-node add-flag single-requires product-requires add-flag-2 product-requires-2 (λ c. search needs) returns)

@@ -49,35 +49,17 @@ add-work c =
     let begin = c .before .before .before in
     omega (arith, slot-fits _ (begin .args .set) (c .slice-known2 .given (begin .args .shelf) .fits) (begin .pre .1))
 
-mul-work-5 : tie.Need-mul-work-5
-mul-work-5 c = search needs
-
 slice-write-work-2 : tie.Need-slice-write-work-2
 slice-write-work-2 c =
     let begin = c .before .before .before in
     let inside : begin .args .shelf < length (begin .args .work .now) = omega (arith, begin .pre .0 .0) in
     search (needs, inside)
 
-same-length : tie.Need-same-length
-same-length c = search needs
-
 returns : tie.Need-returns
 returns c =
     let begin = c .before .before .before in
     let a = begin .args in
     first-put (a .work .now) (a .shelf) (a .flag) _ (mark begin) (begin .pre .0 .0) (a .set) (begin .pre .1) (c .before .if1 .taken)
-
-add-at : tie.Need-add-at
-add-at c = search needs
-
-mul-work-6 : tie.Need-mul-work-6
-mul-work-6 c = search needs
-
-slice-write-work-3 : tie.Need-slice-write-work-3
-slice-write-work-3 c = search needs
-
-same-length-2 : tie.Need-same-length-2
-same-length-2 c = search needs
 
 returns-2 : tie.Need-returns-2
 returns-2 c =
@@ -88,22 +70,6 @@ returns-2 c =
 pub put-set-spec : {M : Type 1} → statement M
 put-set-spec =
     tie.close
-    (tie.spec
-    mul-work
-    slice-read-work
-    shl-work
-    mul-work-2
-    slice-write-work
-    mul-work-3
-    slice-read-work-2
-    mul-work-4
-    add-work
-    mul-work-5
-    slice-write-work-2
-    same-length
-    returns
-    add-at
-    mul-work-6
-    slice-write-work-3
-    same-length-2
-    returns-2)
+    (tie.spec mul-work slice-read-work shl-work mul-work-2 slice-write-work mul-work-3 slice-read-work-2 mul-work-4 add-work
+    (λ c. search needs) slice-write-work-2 (λ c. search needs) returns (λ c. search needs) (λ c. search needs) (λ c. search needs)
+    (λ c. search needs) returns-2)

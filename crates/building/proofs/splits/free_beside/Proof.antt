@@ -22,11 +22,8 @@ cast-if1 c = omega (arith, c .shared-slice-known2 .given (mostFlags + c .before 
 returns : tie.Need-returns
 returns c size noted below few = none-shared noted below (c .before .before .before .args .marked) few (c .if1 .taken)
 
-free-marks-requires : tie.Need-free-marks-requires
-free-marks-requires c κs = search needs
-
 returns-2 : tie.Need-returns-2
 returns-2 c size noted below few = c .free-marks .ensures size noted below
 
 pub free-beside-spec : {M : Type 1} → statement M
-free-beside-spec = tie.close (tie.spec add-if1 mul-if1 shared-slice-read-if1 cast-if1 returns free-marks-requires returns-2)
+free-beside-spec = tie.close (tie.spec add-if1 mul-if1 shared-slice-read-if1 cast-if1 returns (λ c κs. search needs) returns-2)

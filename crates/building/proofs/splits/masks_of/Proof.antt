@@ -96,21 +96,5 @@ returns c =
 pub masks-of-spec : {M : Type 1} → statement M
 masks-of-spec =
     tie.close
-    (tie.spec
-    Inv-loop
-    μ-loop
-    mul-first
-    loop-holds
-    mul-if1
-    element-copy-out-if1
-    cast-if1
-    add-if1
-    cast-free
-    shl-free
-    add-i
-    cast-shared
-    shl-shared
-    add-b
-    loop-less
-    loop-again
-    returns)
+    (tie.spec Inv-loop μ-loop mul-first loop-holds mul-if1 element-copy-out-if1 cast-if1 add-if1 cast-free shl-free add-i cast-shared
+    shl-shared add-b loop-less loop-again returns)

@@ -79,21 +79,5 @@ returns c =
 pub note-spec : {M : Type 1} → statement M
 note-spec =
     tie.close
-    (tie.spec
-    Inv-loop
-    μ-loop
-    loop-holds
-    mul-masks-of
-    array-read-masks-of
-    cast-masks-of
-    masks-of-requires
-    mul-notes
-    slice-write-notes
-    add-notes
-    mul-notes-2
-    slice-write-notes-2
-    add-flag
-    loop-less
-    loop-again
-    same-length
-    returns)
+    (tie.spec Inv-loop μ-loop loop-holds mul-masks-of array-read-masks-of cast-masks-of masks-of-requires mul-notes slice-write-notes
+    add-notes mul-notes-2 slice-write-notes-2 add-flag loop-less loop-again same-length returns)

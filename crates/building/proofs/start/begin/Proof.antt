@@ -9,20 +9,8 @@ use Rattle.building.proofs.start.begin.Tie as tie
 read-tree-requires : tie.Need-read-tree-requires
 read-tree-requires c κs = tt
 
-enum-known-why : tie.Need-enum-known-why
-enum-known-why c = search needs
-
-enum-known-tree : tie.Need-enum-known-tree
-enum-known-tree c = search needs
-
 read-query-requires : tie.Need-read-query-requires
 read-query-requires c κs = tt
-
-enum-known-why-2 : tie.Need-enum-known-why-2
-enum-known-why-2 c = search needs
-
-enum-known-query : tie.Need-enum-known-query
-enum-known-query c = search needs
 
 start-requires : tie.Need-start-requires
 start-requires c κs =
@@ -55,28 +43,8 @@ returns-2 c =
     (sym (ap saysQuery (why .why2 .given .1)) ∙ read .read-query .ensures) in
     (refuses, few, refl)
 
-same-length : tie.Need-same-length
-same-length c = search needs
-
-same-length-2 : tie.Need-same-length-2
-same-length-2 c = search needs
-
-returns-3 : tie.Need-returns-3
-returns-3 c = search needs
-
 pub begin-spec : {M : Type 1} → statement M
 begin-spec =
     tie.close
-    (tie.spec
-    read-tree-requires
-    enum-known-why
-    enum-known-tree
-    read-query-requires
-    enum-known-why-2
-    enum-known-query
-    start-requires
-    returns
-    returns-2
-    same-length
-    same-length-2
-    returns-3)
+    (tie.spec read-tree-requires (λ c. search needs) (λ c. search needs) read-query-requires (λ c. search needs) (λ c. search needs)
+    start-requires returns returns-2 (λ c. search needs) (λ c. search needs) (λ c. search needs))

@@ -62,20 +62,11 @@ returns c =
       refl,
     )
 
-record-limit-requires : tie.Need-record-limit-requires
-record-limit-requires c κs = search needs
-
 cast-t14 : tie.Need-cast-t14
 cast-t14 c =
     let wide = c .before .before in
     let start = wide .before .before .before .before .before in
     omega (arith, asked-fits (start .args .input .now) (start .args .tree) (start .args .query) (facts start) (wide .frame-width .ensures))
-
-cast-t15 : tie.Need-cast-t15
-cast-t15 c = search needs
-
-list-rules-requires : tie.Need-list-rules-requires
-list-rules-requires c κs = search needs
 
 sub-note : tie.Need-sub-note
 sub-note c = omega (arith, long (c .before .before))
@@ -118,12 +109,6 @@ start-node-requires c κs =
       listed noted,
     )
 
-same-length : tie.Need-same-length
-same-length c = search needs
-
-same-length-2 : tie.Need-same-length-2
-same-length-2 c = search needs
-
 returns-2 : tie.Need-returns-2
 returns-2 c =
     let come = c .before .before in
@@ -143,21 +128,6 @@ returns-2 c =
 pub start-spec : {M : Type 1} → statement M
 start-spec =
     tie.close
-    (tie.spec
-    add-asked
-    frame-width-requires
-    mul-asked
-    returns
-    record-limit-requires
-    cast-t14
-    cast-t15
-    list-rules-requires
-    sub-note
-    part-note-start
-    part-note-end
-    flags-requires
-    note-requires
-    start-node-requires
-    same-length
-    same-length-2
+    (tie.spec add-asked frame-width-requires mul-asked returns (λ c κs. search needs) cast-t14 (λ c. search needs) (λ c κs. search needs)
+    sub-note part-note-start part-note-end flags-requires note-requires start-node-requires (λ c. search needs) (λ c. search needs)
     returns-2)

@@ -5,9 +5,6 @@ use borrow.Author.Tests.{le-ltb, lt-ltb}
 use Rattle.building.proofs.state.count_records.Statement.{statement}
 use Rattle.building.proofs.state.count_records.Tie as tie
 
-sub-if1 : tie.Need-sub-if1
-sub-if1 c = search needs
-
 returns : tie.Need-returns
 returns c = let t = c .before .before .args .t in rw (lt-ltb (t .limit - t .from) (c .before .before .args .count) (c .if1 .taken))
 
@@ -18,4 +15,4 @@ returns-2 c =
     rw (le-ltb (t .limit - t .from) (start .args .count) (c .if1 .left))
 
 pub count-records-spec : {M : Type 1} → statement M
-count-records-spec = tie.close (tie.spec sub-if1 returns returns-2)
+count-records-spec = tie.close (tie.spec (λ c. search needs) returns returns-2)

@@ -12,21 +12,6 @@ use Rattle.paper.proofs.StreamRefusal.position.Tie as tie
 abbrev said : StreamRefusal → Option ℕ
 said r = positionIn (noOfStream r)
 
-enum-known-self : tie.Need-enum-known-self
-enum-known-self c = search needs
-
-enum-known-self-2 : tie.Need-enum-known-self-2
-enum-known-self-2 c = search needs
-
-enum-known-self-3 : tie.Need-enum-known-self-3
-enum-known-self-3 c = search needs
-
-enum-known-self-4 : tie.Need-enum-known-self-4
-enum-known-self-4 c = search needs
-
-enum-told : tie.Need-enum-told
-enum-told c = search needs
-
 returns : tie.Need-returns
 returns c = ap said (sym (c .before .self .given .1))
 
@@ -45,14 +30,5 @@ returns-5 c = ap said (sym (c .enum-told .given .1))
 pub position-spec : {M : Type 1} → statement M
 position-spec =
     tie.close
-    (tie.spec
-    enum-known-self
-    enum-known-self-2
-    enum-known-self-3
-    enum-known-self-4
-    enum-told
-    returns
-    returns-2
-    returns-3
-    returns-4
-    returns-5)
+    (tie.spec (λ c. search needs) (λ c. search needs) (λ c. search needs) (λ c. search needs) (λ c. search needs) returns returns-2
+    returns-3 returns-4 returns-5)

@@ -40,67 +40,16 @@ left k =
     branch-rule-fits (input a) (f a) (at a) (a .pre .kind) (whole (k .before .before .before .before))
     ∙ rw (sym (k .before .label-and-flag-fit .ensures) ∙ not-false _ (k .if2 .left)) refl
 
-add-if1 : tie.Need-add-if1
-add-if1 c = search needs
-
-body-length-requires : tie.Need-body-length-requires
-body-length-requires c κs = search needs
-
-add-if1-2 : tie.Need-add-if1-2
-add-if1-2 c = search needs
-
 returns : tie.Need-returns
 returns c =
     let a = c .before .before .before in
     cut-fits (input a) (f a) (at a) 18 (a .pre .kind) (a .pre .here) (omega (arith, c .before .body-length .ensures))
-
-add-label-and-flag-fit : tie.Need-add-label-and-flag-fit
-add-label-and-flag-fit c = search needs
-
-shared-slice-read-label-and-flag-fit : tie.Need-shared-slice-read-label-and-flag-fit
-shared-slice-read-label-and-flag-fit c = search needs
-
-add-label-and-flag-fit-2 : tie.Need-add-label-and-flag-fit-2
-add-label-and-flag-fit-2 c = search needs
-
-shared-slice-read-label-and-flag-fit-2 : tie.Need-shared-slice-read-label-and-flag-fit-2
-shared-slice-read-label-and-flag-fit-2 c = search needs
-
-label-and-flag-fit-requires : tie.Need-label-and-flag-fit-requires
-label-and-flag-fit-requires c κs = search needs
 
 returns-2 : tie.Need-returns-2
 returns-2 c =
     let a = c .before .before .before .before .before .before .before in
     sym (branch-rule-fits (input a) (f a) (at a) (a .pre .kind) (whole (c .before .before .before .before))
     ∙ rw (sym (c .before .label-and-flag-fit .ensures) ∙ not-true _ (c .if2 .taken)) refl)
-
-add-below : tie.Need-add-below
-add-below c = search needs
-
-shared-slice-read-below : tie.Need-shared-slice-read-below
-shared-slice-read-below c = search needs
-
-below-requires : tie.Need-below-requires
-below-requires c κs = search needs
-
-add-below-2 : tie.Need-add-below-2
-add-below-2 c = search needs
-
-shared-slice-read-below-2 : tie.Need-shared-slice-read-below-2
-shared-slice-read-below-2 c = search needs
-
-below-requires-2 : tie.Need-below-requires-2
-below-requires-2 c κs = search needs
-
-add-below-3 : tie.Need-add-below-3
-add-below-3 c = search needs
-
-shared-slice-read-below-3 : tie.Need-shared-slice-read-below-3
-shared-slice-read-below-3 c = search needs
-
-below-requires-3 : tie.Need-below-requires-3
-below-requires-3 c κs = search needs
 
 returns-3 : tie.Need-returns-3
 returns-3 c =
@@ -123,26 +72,7 @@ returns-5 c = c .if3 .left ∙ sym (left (c .before .before .before) ∙ rw (sym
 pub branch-rule-fits-spec : {M : Type 1} → statement M
 branch-rule-fits-spec =
     tie.close
-    (tie.spec
-    add-if1
-    body-length-requires
-    add-if1-2
-    returns
-    add-label-and-flag-fit
-    shared-slice-read-label-and-flag-fit
-    add-label-and-flag-fit-2
-    shared-slice-read-label-and-flag-fit-2
-    label-and-flag-fit-requires
-    returns-2
-    add-below
-    shared-slice-read-below
-    below-requires
-    add-below-2
-    shared-slice-read-below-2
-    below-requires-2
-    add-below-3
-    shared-slice-read-below-3
-    below-requires-3
-    returns-3
-    returns-4
-    returns-5)
+    (tie.spec (λ c. search needs) (λ c κs. search needs) (λ c. search needs) returns (λ c. search needs) (λ c. search needs)
+    (λ c. search needs) (λ c. search needs) (λ c κs. search needs) returns-2 (λ c. search needs) (λ c. search needs) (λ c κs. search needs)
+    (λ c. search needs) (λ c. search needs) (λ c κs. search needs) (λ c. search needs) (λ c. search needs) (λ c κs. search needs) returns-3
+    returns-4 returns-5)

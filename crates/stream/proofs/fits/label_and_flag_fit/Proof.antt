@@ -8,9 +8,6 @@ use lib.Pow.{shl-exact}
 use Rattle.stream.proofs.fits.label_and_flag_fit.Statement.{statement}
 use Rattle.stream.proofs.fits.label_and_flag_fit.Tie as tie
 
-shl-result : tie.Need-shl-result
-shl-result c = search needs
-
 returns : tie.Need-returns
 returns c =
     let arity = c .before .args .arity in
@@ -21,4 +18,4 @@ returns-2 : tie.Need-returns-2
 returns-2 c = simp (lt-leb _ _ (c .if1 .left))
 
 pub label-and-flag-fit-spec : {M : Type 1} → statement M
-label-and-flag-fit-spec = tie.close (tie.spec shl-result returns returns-2)
+label-and-flag-fit-spec = tie.close (tie.spec (λ c. search needs) returns returns-2)

@@ -5,18 +5,6 @@ use Rattle.stream.proofs.InRange.{known-kind, unknown-kind}
 use Rattle.stream.proofs.fits.record_fits.Statement.{statement}
 use Rattle.stream.proofs.fits.record_fits.Tie as tie
 
-shared-slice-read-kind : tie.Need-shared-slice-read-kind
-shared-slice-read-kind c = search needs
-
-leaf-rule-fits-requires : tie.Need-leaf-rule-fits-requires
-leaf-rule-fits-requires c κs = search needs
-
-branch-rule-fits-requires : tie.Need-branch-rule-fits-requires
-branch-rule-fits-requires c κs = search needs
-
-state-fits-requires : tie.Need-state-fits-requires
-state-fits-requires c κs = search needs
-
 returns : tie.Need-returns
 returns c =
     let a = c .before .before .before .before .args in
@@ -40,12 +28,5 @@ returns-4 c =
 pub record-fits-spec : {M : Type 1} → statement M
 record-fits-spec =
     tie.close
-    (tie.spec
-    shared-slice-read-kind
-    leaf-rule-fits-requires
-    branch-rule-fits-requires
-    state-fits-requires
-    returns
-    returns-2
-    returns-3
+    (tie.spec (λ c. search needs) (λ c κs. search needs) (λ c κs. search needs) (λ c κs. search needs) returns returns-2 returns-3
     returns-4)

@@ -35,20 +35,8 @@ module _ (k : tie.Else3) where
 returns : tie.Need-returns
 returns c = let a = c .before .before in no-record (input a) (at a) (c .if1 .taken)
 
-shared-slice-read-if2 : tie.Need-shared-slice-read-if2
-shared-slice-read-if2 c = search needs
-
 returns-2 : tie.Need-returns-2
 returns-2 c = let a = c .before .before .before .before in no-head (input a) (at a) (c .before .before .if1 .left) (c .if2 .taken)
-
-add-next : tie.Need-add-next
-add-next c = search needs
-
-body-length-requires : tie.Need-body-length-requires
-body-length-requires c κs = search needs
-
-add-next-2 : tie.Need-add-next-2
-add-next-2 c = search needs
 
 returns-3 : tie.Need-returns-3
 returns-3 c =
@@ -56,34 +44,16 @@ returns-3 c =
     cut-head (input a) (at a) (c .before .before .before .before .if1 .left) (c .before .before .if2 .left)
     (omega (arith, c .if3 .taken, c .before .body-length .ensures))
 
-add-arity : tie.Need-add-arity
-add-arity c = search needs
-
-shared-slice-read-arity : tie.Need-shared-slice-read-arity
-shared-slice-read-arity c = search needs
-
 cast-arity : tie.Need-cast-arity
 cast-arity c = let k = c .before in omega (arith, c .shared-slice-known3 .given (at (start k) + 1))
 
-add-states : tie.Need-add-states
-add-states c = search needs
-
-shared-slice-read-states : tie.Need-shared-slice-read-states
-shared-slice-read-states c = search needs
-
 cast-states : tie.Need-cast-states
 cast-states c = let k = c .before .before in omega (arith, c .shared-slice-known4 .given (at (start k) + 2))
-
-within-requires : tie.Need-within-requires
-within-requires c κs = search needs
 
 returns-4 : tie.Need-returns-4
 returns-4 c =
     let k = c .before .before .before .before in
     arity-out (input (start k)) (at (start k)) (inside k) (kind k) (fits k) (sym (c .before .within .ensures) ∙ not-true _ (c .if4 .taken))
-
-within-requires-2 : tie.Need-within-requires-2
-within-requires-2 c κs = search needs
 
 returns-5 : tie.Need-returns-5
 returns-5 c =
@@ -102,22 +72,6 @@ returns-6 c =
 pub query-head-spec : {M : Type 1} → statement M
 query-head-spec =
     tie.close
-    (tie.spec
-    returns
-    shared-slice-read-if2
-    returns-2
-    add-next
-    body-length-requires
-    add-next-2
-    returns-3
-    add-arity
-    shared-slice-read-arity
-    cast-arity
-    add-states
-    shared-slice-read-states
-    cast-states
-    within-requires
-    returns-4
-    within-requires-2
-    returns-5
-    returns-6)
+    (tie.spec returns (λ c. search needs) returns-2 (λ c. search needs) (λ c κs. search needs) (λ c. search needs) returns-3
+    (λ c. search needs) (λ c. search needs) cast-arity (λ c. search needs) (λ c. search needs) cast-states (λ c κs. search needs) returns-4
+    (λ c κs. search needs) returns-5 returns-6)

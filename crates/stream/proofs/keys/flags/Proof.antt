@@ -7,9 +7,6 @@ use lib.Pow.{pow-mono, shl-exact}
 use Rattle.stream.proofs.keys.flags.Statement.{statement}
 use Rattle.stream.proofs.keys.flags.Tie as tie
 
-shl-result : tie.Need-shl-result
-shl-result c = search needs
-
 returns : tie.Need-returns
 returns c =
     let arity = c .before .args .facts .arity in
@@ -17,4 +14,4 @@ returns c =
     (two-to, omega (arith, two-to, pow-mono (c .before .pre)))
 
 pub flags-spec : {M : Type 1} → statement M
-flags-spec = tie.close (tie.spec shl-result returns)
+flags-spec = tie.close (tie.spec (λ c. search needs) returns)

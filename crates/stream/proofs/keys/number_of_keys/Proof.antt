@@ -11,15 +11,6 @@ few c =
     let symbols : 64 * c .before .flags .result ≤ 64 * 16 = omega (arith, c .before .flags .ensures .1) in
     mul-le-mul symbols (c .ends .ensures .1)
 
-flags-requires : tie.Need-flags-requires
-flags-requires c κs = search needs
-
-mul-result : tie.Need-mul-result
-mul-result c = search needs
-
-ends-requires : tie.Need-ends-requires
-ends-requires c κs = search needs
-
 mul-result-2 : tie.Need-mul-result-2
 mul-result-2 c = omega (arith, few c)
 
@@ -32,10 +23,4 @@ returns c = (cc (c .before .flags .ensures .0, c .ends .ensures .0), omega (arit
 pub number-of-keys-spec : {M : Type 1} → statement M
 number-of-keys-spec =
     tie.close
-    (tie.spec
-    flags-requires
-    mul-result
-    ends-requires
-    mul-result-2
-    add-result
-    returns)
+    (tie.spec (λ c κs. search needs) (λ c. search needs) (λ c κs. search needs) mul-result-2 add-result returns)

@@ -27,20 +27,11 @@ left-low c =
     mul-le-mul p (a .pre .0 .head .few-states)
 
 -- ---- needs
-add-number-at : tie.Need-add-number-at
-add-number-at c = search needs
-
 number-at-requires : tie.Need-number-at-requires
 number-at-requires c κs = let a = c .before in omega (arith, rule-long _ _ _ (a .pre .0) (a .pre .1))
 
-flags-requires : tie.Need-flags-requires
-flags-requires c κs = search needs
-
 mul-label-and-flag : tie.Need-mul-label-and-flag
 mul-label-and-flag c = omega (arith, label-low c)
-
-add-number-at-2 : tie.Need-add-number-at-2
-add-number-at-2 c = search needs
 
 number-at-requires-2 : tie.Need-number-at-requires-2
 number-at-requires-2 c κs = let a = c .before .before .before in omega (arith, rule-long _ _ _ (a .pre .0) (a .pre .1))
@@ -48,17 +39,11 @@ number-at-requires-2 c κs = let a = c .before .before .before in omega (arith, 
 add-label-and-flag : tie.Need-add-label-and-flag
 add-label-and-flag c = omega (arith, label-low (c .before), c .number-at2 .ensures .1)
 
-ends-requires : tie.Need-ends-requires
-ends-requires c κs = search needs
-
 mul-first : tie.Need-mul-first
 mul-first c = omega (arith, symbol-low c)
 
 add-first : tie.Need-add-first
 add-first c = omega (arith, symbol-low c)
-
-shared-slice-read-if1 : tie.Need-shared-slice-read-if1
-shared-slice-read-if1 c = search needs
 
 returns : tie.Need-returns
 returns c =
@@ -70,9 +55,6 @@ returns c =
 add-result : tie.Need-add-result
 add-result c = omega (arith, symbol-low (c .before .before))
 
-add-number-at-3 : tie.Need-add-number-at-3
-add-number-at-3 c = search needs
-
 number-at-requires-3 : tie.Need-number-at-requires-3
 number-at-requires-3 c κs =
     let a = c .before .before .before .before .before .before .before in
@@ -83,9 +65,6 @@ mul-result c = omega (arith, left-low c)
 
 add-result-2 : tie.Need-add-result-2
 add-result-2 c = omega (arith, left-low c, symbol-low (c .before .before .before .before))
-
-add-number-at-4 : tie.Need-add-number-at-4
-add-number-at-4 c = search needs
 
 number-at-requires-4 : tie.Need-number-at-requires-4
 number-at-requires-4 c κs =
@@ -107,25 +86,6 @@ returns-2 c =
 pub rule-key-spec : {M : Type 1} → statement M
 rule-key-spec =
     tie.close
-    (tie.spec
-    add-number-at
-    number-at-requires
-    flags-requires
-    mul-label-and-flag
-    add-number-at-2
-    number-at-requires-2
-    add-label-and-flag
-    ends-requires
-    mul-first
-    add-first
-    shared-slice-read-if1
-    returns
-    add-result
-    add-number-at-3
-    number-at-requires-3
-    mul-result
-    add-result-2
-    add-number-at-4
-    number-at-requires-4
-    add-result-3
-    returns-2)
+    (tie.spec (λ c. search needs) number-at-requires (λ c κs. search needs) mul-label-and-flag (λ c. search needs) number-at-requires-2
+    add-label-and-flag (λ c κs. search needs) mul-first add-first (λ c. search needs) returns add-result (λ c. search needs)
+    number-at-requires-3 mul-result add-result-2 (λ c. search needs) number-at-requires-4 add-result-3 returns-2)

@@ -6,9 +6,6 @@ use Rattle.stream.proofs.KeyBytes.{state-bytes, state-long}
 use Rattle.stream.proofs.keys.state_key.Statement.{statement}
 use Rattle.stream.proofs.keys.state_key.Tie as tie
 
-add-number-at : tie.Need-add-number-at
-add-number-at c = search needs
-
 number-at-requires : tie.Need-number-at-requires
 number-at-requires c κs = omega (arith, state-long _ _ _ (c .before .pre .0) (c .before .pre .1))
 
@@ -16,4 +13,4 @@ returns : tie.Need-returns
 returns c = let a = c .before .before in c .number-at .ensures .0 ∙ state-bytes (a .args .input .now) (a .args .facts) (a .args .at) (a .pre .1)
 
 pub state-key-spec : {M : Type 1} → statement M
-state-key-spec = tie.close (tie.spec add-number-at number-at-requires returns)
+state-key-spec = tie.close (tie.spec (λ c. search needs) number-at-requires returns)

@@ -7,33 +7,6 @@ use Rattle.stream.proofs.LengthTable.{length-at, no-length, short}
 use Rattle.stream.proofs.lengths.body_length.Statement.{statement}
 use Rattle.stream.proofs.lengths.body_length.Tie as tie
 
-array-read-result : tie.Need-array-read-result
-array-read-result c = search needs
-
-cast-result : tie.Need-cast-result
-cast-result c = search needs
-
-array-read-result-2 : tie.Need-array-read-result-2
-array-read-result-2 c = search needs
-
-cast-result-2 : tie.Need-cast-result-2
-cast-result-2 c = search needs
-
-array-read-result-3 : tie.Need-array-read-result-3
-array-read-result-3 c = search needs
-
-cast-result-3 : tie.Need-cast-result-3
-cast-result-3 c = search needs
-
-array-read-result-4 : tie.Need-array-read-result-4
-array-read-result-4 c = search needs
-
-cast-result-4 : tie.Need-cast-result-4
-cast-result-4 c = search needs
-
-array-read-result-5 : tie.Need-array-read-result-5
-array-read-result-5 c = search needs
-
 cast-result-5 : tie.Need-cast-result-5
 cast-result-5 c = omega (arith, length-at (c .before .before .args .kind) (c .if1 .taken), short (c .before .before .args .kind))
 
@@ -58,20 +31,5 @@ returns-6 c = sym (no-length (c .before .before .args .kind) (c .if1 .left))
 pub body-length-spec : {M : Type 1} → statement M
 body-length-spec =
     tie.close
-    (tie.spec
-    array-read-result
-    cast-result
-    array-read-result-2
-    cast-result-2
-    array-read-result-3
-    cast-result-3
-    array-read-result-4
-    cast-result-4
-    array-read-result-5
-    cast-result-5
-    returns
-    returns-2
-    returns-3
-    returns-4
-    returns-5
-    returns-6)
+    (tie.spec (λ c. search needs) (λ c. search needs) (λ c. search needs) (λ c. search needs) (λ c. search needs) (λ c. search needs)
+    (λ c. search needs) (λ c. search needs) (λ c. search needs) cast-result-5 returns returns-2 returns-3 returns-4 returns-5 returns-6)

@@ -10,12 +10,6 @@ use Rattle.stream.proofs.lists.accepts.Tie as tie
 returns : tie.Need-returns
 returns c = (λ input from k low. absurd (omega (arith, low, c .if1 .taken)), λ h. refl)
 
-number-in-requires : tie.Need-number-in-requires
-number-in-requires c κs = search needs
-
-shr-result : tie.Need-shr-result
-shr-result c = search needs
-
 returns-2 : tie.Need-returns-2
 returns-2 c =
     let a = c .before .before .before in (
@@ -26,4 +20,4 @@ returns-2 c =
     )
 
 pub accepts-spec : {M : Type 1} → statement M
-accepts-spec = tie.close (tie.spec returns number-in-requires shr-result returns-2)
+accepts-spec = tie.close (tie.spec returns (λ c κs. search needs) (λ c. search needs) returns-2)

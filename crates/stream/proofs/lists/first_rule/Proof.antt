@@ -6,12 +6,6 @@ use Rattle.stream.proofs.Told.{tells-first}
 use Rattle.stream.proofs.lists.first_rule.Statement.{statement}
 use Rattle.stream.proofs.lists.first_rule.Tie as tie
 
-symbol-of-requires : tie.Need-symbol-of-requires
-symbol-of-requires c κs = search needs
-
-number-in-requires : tie.Need-number-in-requires
-number-in-requires c κs = search needs
-
 returns : tie.Need-returns
 returns c =
     let a = c .before .before .before .args in
@@ -19,4 +13,4 @@ returns c =
     (tells-first (a .lists .now) (a .kind) (a .label) (c .before .symbol-of .result) (c .before .symbol-of .ensures))
 
 pub first-rule-spec : {M : Type 1} → statement M
-first-rule-spec = tie.close (tie.spec symbol-of-requires number-in-requires returns)
+first-rule-spec = tie.close (tie.spec (λ c κs. search needs) (λ c κs. search needs) returns)

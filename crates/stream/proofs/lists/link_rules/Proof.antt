@@ -140,26 +140,6 @@ returns c =
 pub link-rules-spec : {M : Type 1} → statement M
 link-rules-spec =
     tie.close
-    (tie.spec
-    Inv-loop
-    μ-loop
-    cast-end
-    slice-aggregate-start-lists
-    start-lists-requires
-    loop-holds
-    symbol-at-requires
-    sub-cell-of
-    cell-of-requires
-    slice-aggregate-add-rule
-    cast-add-rule
-    add-rule-requires
-    with-state-requires
-    add-at
-    shared-slice-read-body-length
-    body-length-requires
-    add-at-2
-    loop-less
-    loop-again
-    slice-write-lists
-    same-length
-    returns)
+    (tie.spec Inv-loop μ-loop cast-end slice-aggregate-start-lists start-lists-requires loop-holds symbol-at-requires sub-cell-of
+    cell-of-requires slice-aggregate-add-rule cast-add-rule add-rule-requires with-state-requires add-at shared-slice-read-body-length
+    body-length-requires add-at-2 loop-less loop-again slice-write-lists same-length returns)

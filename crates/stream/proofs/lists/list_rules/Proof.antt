@@ -11,17 +11,8 @@ returns c = record { listed = λ few long. absurd (omega (arith, long, c .if1 .t
 returns-2 : tie.Need-returns-2
 returns-2 c = record { listed = λ few long. absurd (omega (arith, few .0, c .if2 .taken)); kept = λ none. refl }
 
-bytes-behind-requires : tie.Need-bytes-behind-requires
-bytes-behind-requires c κs = search needs
-
 returns-3 : tie.Need-returns-3
 returns-3 c = record { listed = λ few long. absurd (omega (arith, few .1, c .if3 .taken, c .before .bytes-behind .ensures)); kept = λ none. refl }
-
-link-rules-requires : tie.Need-link-rules-requires
-link-rules-requires c κs = search needs
-
-same-length : tie.Need-same-length
-same-length c = search needs
 
 returns-4 : tie.Need-returns-4
 returns-4 c =
@@ -36,4 +27,4 @@ returns-4 c =
 
 pub list-rules-spec : {M : Type 1} → statement M
 list-rules-spec =
-    tie.close (tie.spec returns returns-2 bytes-behind-requires returns-3 link-rules-requires same-length returns-4)
+    tie.close (tie.spec returns returns-2 (λ c κs. search needs) returns-3 (λ c κs. search needs) (λ c. search needs) returns-4)

@@ -9,12 +9,6 @@ use Rattle.stream.proofs.Told.{tells-next}
 use Rattle.stream.proofs.lists.rule_after.Statement.{statement}
 use Rattle.stream.proofs.lists.rule_after.Tie as tie
 
-cell-of-requires : tie.Need-cell-of-requires
-cell-of-requires c κs = search needs
-
-number-in-requires : tie.Need-number-in-requires
-number-in-requires c κs = search needs
-
 returns : tie.Need-returns
 returns c from =
     let a = c .before .before .before .args in
@@ -24,4 +18,4 @@ returns c from =
     (tells-next (a .lists .now) from (from + a .behind))
 
 pub rule-after-spec : {M : Type 1} → statement M
-rule-after-spec = tie.close (tie.spec cell-of-requires number-in-requires returns)
+rule-after-spec = tie.close (tie.spec (λ c κs. search needs) (λ c κs. search needs) returns)

@@ -60,18 +60,5 @@ returns c = λ s h. c .before .loop .inv .3 s (omega arith)
 pub start-lists-spec : {M : Type 1} → statement M
 start-lists-spec =
     tie.close
-    (tie.spec
-    Inv-loop
-    μ-loop
-    loop-holds
-    mul-lists
-    slice-write-lists
-    cast-last
-    mul-last
-    slice-write-last
-    add-symbol
-    loop-less
-    loop-again
-    same-length
-    same-length-2
-    returns)
+    (tie.spec Inv-loop μ-loop loop-holds mul-lists slice-write-lists cast-last mul-last slice-write-last add-symbol loop-less loop-again
+    same-length same-length-2 returns)

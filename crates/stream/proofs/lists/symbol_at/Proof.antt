@@ -7,18 +7,6 @@ use Rattle.stream.proofs.Symbols.{symbol-told}
 use Rattle.stream.proofs.lists.symbol_at.Statement.{statement}
 use Rattle.stream.proofs.lists.symbol_at.Tie as tie
 
-shared-slice-read-symbol-of : tie.Need-shared-slice-read-symbol-of
-shared-slice-read-symbol-of c = search needs
-
-add-byte-at : tie.Need-add-byte-at
-add-byte-at c = search needs
-
-byte-at-requires : tie.Need-byte-at-requires
-byte-at-requires c κs = search needs
-
-symbol-of-requires : tie.Need-symbol-of-requires
-symbol-of-requires c κs = search needs
-
 returns : tie.Need-returns
 returns c =
     let start = c .before .before .before .before in
@@ -28,4 +16,4 @@ returns c =
 
 pub symbol-at-spec : {M : Type 1} → statement M
 symbol-at-spec =
-    tie.close (tie.spec shared-slice-read-symbol-of add-byte-at byte-at-requires symbol-of-requires returns)
+    tie.close (tie.spec (λ c. search needs) (λ c. search needs) (λ c κs. search needs) (λ c κs. search needs) returns)

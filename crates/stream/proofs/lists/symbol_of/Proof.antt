@@ -6,12 +6,6 @@ use borrow.Author.Needs.{needs}
 use Rattle.stream.proofs.lists.symbol_of.Statement.{statement}
 use Rattle.stream.proofs.lists.symbol_of.Tie as tie
 
-returns : tie.Need-returns
-returns c = search needs
-
-add-result : tie.Need-add-result
-add-result c = search needs
-
 returns-2 : tie.Need-returns-2
 returns-2 c =
     let leaf = c .match .keys1 in
@@ -38,4 +32,4 @@ returns-4 c = record {
 }
 
 pub symbol-of-spec : {M : Type 1} → statement M
-symbol-of-spec = tie.close (tie.spec returns add-result returns-2 returns-3 returns-4)
+symbol-of-spec = tie.close (tie.spec (λ c. search needs) (λ c. search needs) returns-2 returns-3 returns-4)

@@ -31,29 +31,11 @@ module _ (k : tie.After-byte-at) where
   state : k .byte-at .result ≡ getD input (at + 1) 0
   state = k .byte-at .ensures
 
-shared-slice-read-if1 : tie.Need-shared-slice-read-if1
-shared-slice-read-if1 c = search needs
-
 returns : tie.Need-returns
 returns c = let a = c .before .before .before in no-state (a .args .input .now) (a .args .at) (a .args .accepting) (c .if1 .taken)
 
-add-byte-at : tie.Need-add-byte-at
-add-byte-at c = search needs
-
-byte-at-requires : tie.Need-byte-at-requires
-byte-at-requires c κs = search needs
-
-cast-state : tie.Need-cast-state
-cast-state c = search needs
-
 returns-2 : tie.Need-returns-2
 returns-2 c = let k = c .before in high-state (input k) (at k) (old k) (kind k) (omega (arith, state k, c .if2 .taken))
-
-cast-result : tie.Need-cast-result
-cast-result c = search needs
-
-shl-result : tie.Need-shl-result
-shl-result c = search needs
 
 returns-3 : tie.Need-returns-3
 returns-3 c =
@@ -64,13 +46,5 @@ returns-3 c =
 pub with-state-spec : {M : Type 1} → statement M
 with-state-spec =
     tie.close
-    (tie.spec
-    shared-slice-read-if1
-    returns
-    add-byte-at
-    byte-at-requires
-    cast-state
-    returns-2
-    cast-result
-    shl-result
-    returns-3)
+    (tie.spec (λ c. search needs) returns (λ c. search needs) (λ c κs. search needs) (λ c. search needs) returns-2 (λ c. search needs)
+    (λ c. search needs) returns-3)

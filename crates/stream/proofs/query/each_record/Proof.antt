@@ -86,16 +86,5 @@ returns-2 c = query-ends _ _ _ (c .before .before .loop .inv .0) (c .if1 .left)
 pub each-record-spec : {M : Type 1} → statement M
 each-record-spec =
     tie.close
-    (tie.spec
-    Inv-loop
-    μ-loop
-    loop-holds
-    query-record-requires
-    enum-known-next
-    loop-less
-    loop-again
-    enum-known-why
-    same-length
-    returns
-    same-length-2
-    returns-2)
+    (tie.spec Inv-loop μ-loop loop-holds query-record-requires enum-known-next loop-less loop-again enum-known-why same-length returns
+    same-length-2 returns-2)

@@ -10,28 +10,16 @@ use Rattle.stream.proofs.QuerySteps.{no-fit}
 use Rattle.stream.proofs.query.query_record.Statement.{statement}
 use Rattle.stream.proofs.query.query_record.Tie as tie
 
-record-fits-requires : tie.Need-record-fits-requires
-record-fits-requires c κs = search needs
-
 returns : tie.Need-returns
 returns c =
     let a = c .before .before .before .before .args in
     (no-fit (a .input .now) (a .facts) (a .state .at) (sym (c .before .record-fits .ensures) ∙ not-true _ (c .if1 .taken)), tt)
-
-shared-slice-read-if2 : tie.Need-shared-slice-read-if2
-shared-slice-read-if2 c = search needs
 
 state-record-requires : tie.Need-state-record-requires
 state-record-requires c κs =
     let k = c .before .before .before in
     let a = k .before .before .before .before in
     (record { later = a .pre .0; fitting = sym (k .before .record-fits .ensures) ∙ not-false _ (k .if1 .left); table = a .pre .1 }, c .before .if2 .taken)
-
-same-length : tie.Need-same-length
-same-length c = search needs
-
-returns-2 : tie.Need-returns-2
-returns-2 c = search needs
 
 rule-record-requires : tie.Need-rule-record-requires
 rule-record-requires c κs =
@@ -43,22 +31,8 @@ rule-record-requires c κs =
       rule-kind (a .args .input .now) (a .args .facts) (a .args .state .at) fitting (c .before .if2 .left),
     )
 
-same-length-2 : tie.Need-same-length-2
-same-length-2 c = search needs
-
-returns-3 : tie.Need-returns-3
-returns-3 c = search needs
-
 pub query-record-spec : {M : Type 1} → statement M
 query-record-spec =
     tie.close
-    (tie.spec
-    record-fits-requires
-    returns
-    shared-slice-read-if2
-    state-record-requires
-    same-length
-    returns-2
-    rule-record-requires
-    same-length-2
-    returns-3)
+    (tie.spec (λ c κs. search needs) returns (λ c. search needs) state-record-requires (λ c. search needs) (λ c. search needs)
+    rule-record-requires (λ c. search needs) (λ c. search needs))

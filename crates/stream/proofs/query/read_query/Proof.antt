@@ -6,19 +6,10 @@ use Rattle.stream.proofs.QueryReading.{behind-head, head-passed, head-r
 use Rattle.stream.proofs.query.read_query.Statement.{statement}
 use Rattle.stream.proofs.query.read_query.Tie as tie
 
-query-head-requires : tie.Need-query-head-requires
-query-head-requires c κs = search needs
-
-enum-known-facts : tie.Need-enum-known-facts
-enum-known-facts c = search needs
-
 later-records-requires : tie.Need-later-records-requires
 later-records-requires c κs =
     let a = c .before .before .before .before .before .args in
     behind-head (a .input .now) (a .at) _ (sym (ap saysQuery (c .before .facts .given .1)) ∙ c .before .before .before .query-head .ensures)
-
-enum-known-why : tie.Need-enum-known-why
-enum-known-why c = search needs
 
 returns : tie.Need-returns
 returns c =
@@ -35,10 +26,4 @@ returns-2 c =
 pub read-query-spec : {M : Type 1} → statement M
 read-query-spec =
     tie.close
-    (tie.spec
-    query-head-requires
-    enum-known-facts
-    later-records-requires
-    enum-known-why
-    returns
-    returns-2)
+    (tie.spec (λ c κs. search needs) (λ c. search needs) later-records-requires (λ c. search needs) returns returns-2)

@@ -25,34 +25,16 @@ rule-key-requires c κs = let a = c .before .before .before .before in (whole-at
 say-requires : tie.Need-say-requires
 say-requires c κs = let k = c .before in key-inside _ _ _ _ (k .before .before .before .before .before .pre .0) _ (k .rule-key .ensures)
 
-same-length : tie.Need-same-length
-same-length c = search needs
-
 returns-2 : tie.Need-returns-2
 returns-2 c =
     let say = c .before .before .before in
     let a = start say in
     (said-twice _ _ _ _ (a .pre .0) _ _ (looked say) (few-rules _ _ _ _ (a .pre .0) (say .before .before .before .if1 .left)) (c .if2 .taken), tt)
 
-add-t13 : tie.Need-add-t13
-add-t13 c = search needs
-
-shared-slice-read-body-length : tie.Need-shared-slice-read-body-length
-shared-slice-read-body-length c = search needs
-
-body-length-requires : tie.Need-body-length-requires
-body-length-requires c κs = search needs
-
 add-t17 : tie.Need-add-t17
 add-t17 c =
     let a = start (c .before .before .before .before .before) in
     omega (arith, whole-record _ _ _ _ (a .pre .0), c .body-length .ensures)
-
-add-t18 : tie.Need-add-t18
-add-t18 c = search needs
-
-same-length-2 : tie.Need-same-length-2
-same-length-2 c = search needs
 
 returns-3 : tie.Need-returns-3
 returns-3 c =
@@ -69,16 +51,5 @@ returns-3 c =
 pub rule-record-spec : {M : Type 1} → statement M
 rule-record-spec =
     tie.close
-    (tie.spec
-    returns
-    rule-key-requires
-    say-requires
-    same-length
-    returns-2
-    add-t13
-    shared-slice-read-body-length
-    body-length-requires
-    add-t17
-    add-t18
-    same-length-2
-    returns-3)
+    (tie.spec returns rule-key-requires say-requires (λ c. search needs) returns-2 (λ c. search needs) (λ c. search needs)
+    (λ c κs. search needs) add-t17 (λ c. search needs) (λ c. search needs) returns-3)

@@ -24,26 +24,11 @@ state-key-requires c κs = let a = c .before .before in (whole-at _ _ _ _ (a .pr
 say-requires : tie.Need-say-requires
 say-requires c κs = let k = c .before in key-inside _ _ _ _ (k .before .before .before .pre .0) _ (k .state-key .ensures)
 
-same-length : tie.Need-same-length
-same-length c = search needs
-
 returns : tie.Need-returns
 returns c =
     let say = c .before .before .before in
     let a = start say in
     (said-twice _ _ _ _ (a .pre .0) _ _ (looked say) (no-rule _ _ _ _ (a .pre .0) (a .pre .1)) (c .if1 .taken), tt)
-
-add-t11 : tie.Need-add-t11
-add-t11 c = search needs
-
-body-length-requires : tie.Need-body-length-requires
-body-length-requires c κs = search needs
-
-add-t13 : tie.Need-add-t13
-add-t13 c = search needs
-
-same-length-2 : tie.Need-same-length-2
-same-length-2 c = search needs
 
 returns-2 : tie.Need-returns-2
 returns-2 c =
@@ -60,13 +45,5 @@ returns-2 c =
 pub state-record-spec : {M : Type 1} → statement M
 state-record-spec =
     tie.close
-    (tie.spec
-    state-key-requires
-    say-requires
-    same-length
-    returns
-    add-t11
-    body-length-requires
-    add-t13
-    same-length-2
-    returns-2)
+    (tie.spec state-key-requires say-requires (λ c. search needs) returns (λ c. search needs) (λ c κs. search needs) (λ c. search needs)
+    (λ c. search needs) returns-2)

@@ -4,14 +4,8 @@ use Rattle.stream.proofs.KeyTable.{new-table}
 use Rattle.stream.proofs.query.with_small_table.Statement.{statement}
 use Rattle.stream.proofs.query.with_small_table.Tie as tie
 
-slice-aggregate-each-record : tie.Need-slice-aggregate-each-record
-slice-aggregate-each-record c = search needs
-
 each-record-requires : tie.Need-each-record-requires
 each-record-requires c κs = let a = c .before .before in (a .pre .0, new-table (a .args .facts) 128 (a .pre .1))
 
-returns : tie.Need-returns
-returns c = search needs
-
 pub with-small-table-spec : {M : Type 1} → statement M
-with-small-table-spec = tie.close (tie.spec slice-aggregate-each-record each-record-requires returns)
+with-small-table-spec = tie.close (tie.spec (λ c. search needs) each-record-requires (λ c. search needs))

@@ -69,16 +69,5 @@ returns-3 c = tree-read _ _ (c .before .before .before .before .loop .inv) (none
 pub read-tree-spec : {M : Type 1} → statement M
 read-tree-spec =
     tie.close
-    (tie.spec
-    Inv-loop
-    μ-loop
-    loop-holds
-    is-tree-record-requires
-    tree-record-requires
-    enum-known-next
-    loop-less
-    loop-again
-    enum-known-why
-    returns
-    returns-2
-    returns-3)
+    (tie.spec Inv-loop μ-loop loop-holds is-tree-record-requires tree-record-requires enum-known-next loop-less loop-again enum-known-why
+    returns returns-2 returns-3)

@@ -42,12 +42,6 @@ module _ (j : tie.Else3) where
 shared-slice-read-kind : tie.Need-shared-slice-read-kind
 shared-slice-read-kind c = inside _ _ (c .before .before .pre)
 
-add-next : tie.Need-add-next
-add-next c = search needs
-
-body-length-requires : tie.Need-body-length-requires
-body-length-requires c κs = search needs
-
 add-next-2 : tie.Need-add-next-2
 add-next-2 c = omega (arith, inside (input c) (s c) (here c), next c, one-number (input c) (s c) (here c))
 
@@ -58,9 +52,6 @@ returns-2 : tie.Need-returns-2
 returns-2 c =
     let k = c .before .before .before in
     cut-record _ _ (here k) (c .before .if1 .left) (subst (λ n. length (input k) < n) (next k) (c .if2 .taken))
-
-add-if3 : tie.Need-add-if3
-add-if3 c = search needs
 
 shared-slice-read-if3 : tie.Need-shared-slice-read-if3
 shared-slice-read-if3 c =
@@ -76,12 +67,6 @@ returns-3 c =
 add-unjoined : tie.Need-add-unjoined
 add-unjoined c = let j = c .before .before in omega (arith, fewer-than-nodes _ _ (here (k j)), few j)
 
-add-t16 : tie.Need-add-t16
-add-t16 c = search needs
-
-larger-requires : tie.Need-larger-requires
-larger-requires c κs = search needs
-
 returns-4 : tie.Need-returns-4
 returns-4 c =
     let j = c .before .before .before .before in
@@ -92,12 +77,6 @@ returns-5 c =
     let j = c .before .before .before in
     few-unjoined _ _ (here (k j)) (few j) (fits j) (low j) (c .before .before .if4 .left) (c .if5 .taken)
 
-add-t9 : tie.Need-add-t9
-add-t9 c = search needs
-
-sub-t10 : tie.Need-sub-t10
-sub-t10 c = search needs
-
 returns-6 : tie.Need-returns-6
 returns-6 c =
     let j = c .before .before .before .before .before in
@@ -106,21 +85,6 @@ returns-6 c =
 pub tree-record-spec : {M : Type 1} → statement M
 tree-record-spec =
     tie.close
-    (tie.spec
-    shared-slice-read-kind
-    add-next
-    body-length-requires
-    add-next-2
-    returns
-    returns-2
-    add-if3
-    shared-slice-read-if3
-    returns-3
-    add-unjoined
-    add-t16
-    larger-requires
-    returns-4
-    returns-5
-    add-t9
-    sub-t10
-    returns-6)
+    (tie.spec shared-slice-read-kind (λ c. search needs) (λ c κs. search needs) add-next-2 returns returns-2 (λ c. search needs)
+    shared-slice-read-if3 returns-3 add-unjoined (λ c. search needs) (λ c κs. search needs) returns-4 returns-5 (λ c. search needs)
+    (λ c. search needs) returns-6)

@@ -62,14 +62,4 @@ returns c =
 pub copy-to-start-spec : {M : Type 1} → statement M
 copy-to-start-spec =
     tie.close
-    (tie.spec
-    Inv-loop
-    μ-loop
-    loop-holds
-    shared-slice-read-out
-    slice-write-out
-    add-i
-    loop-less
-    loop-again
-    same-length
-    returns)
+    (tie.spec Inv-loop μ-loop loop-holds shared-slice-read-out slice-write-out add-i loop-less loop-again same-length returns)

@@ -96,23 +96,6 @@ returns-2 c = none-ends (c .before .before .loop .inv) (c .if2 .left)
 pub completed-spec : {M : Type 1} → statement M
 completed-spec =
     tie.close
-    (tie.spec
-    Inv-loop
-    μ-loop
-    loop-holds
-    sub-if1
-    element-copy-out-if1
-    put-byte-requires
-    sub-put-label
-    element-copy-out-put-label
-    put-label-requires
-    sub-top
-    loop-less
-    loop-again
-    sub-waiting
-    element-copy-out-waiting
-    add-waiting
-    sub-waiting-2
-    element-write-waiting
-    returns
-    returns-2)
+    (tie.spec Inv-loop μ-loop loop-holds sub-if1 element-copy-out-if1 put-byte-requires sub-put-label element-copy-out-put-label
+    put-label-requires sub-top loop-less loop-again sub-waiting element-copy-out-waiting add-waiting sub-waiting-2 element-write-waiting
+    returns returns-2)

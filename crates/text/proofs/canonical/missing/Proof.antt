@@ -5,18 +5,6 @@ use Rattle.text.proofs.WrittenRecords.{can-complete, childless-room, no
 use Rattle.text.proofs.canonical.missing.Statement.{statement}
 use Rattle.text.proofs.canonical.missing.Tie as tie
 
-sub-top : tie.Need-sub-top
-sub-top c = search needs
-
-element-copy-out-node : tie.Need-element-copy-out-node
-element-copy-out-node c = search needs
-
-add-waiting : tie.Need-add-waiting
-add-waiting c = search needs
-
-element-write-waiting : tie.Need-element-write-waiting
-element-write-waiting c = search needs
-
 returns : tie.Need-returns
 returns c =
     let k = c .before .before .before in
@@ -42,12 +30,5 @@ returns-2 c =
 pub missing-spec : {M : Type 1} → statement M
 missing-spec =
     tie.close
-    (tie.spec
-    sub-top
-    element-copy-out-node
-    add-waiting
-    element-write-waiting
-    returns
-    put-childless-requires
-    completed-requires
-    returns-2)
+    (tie.spec (λ c. search needs) (λ c. search needs) (λ c. search needs) (λ c. search needs) returns put-childless-requires
+    completed-requires returns-2)

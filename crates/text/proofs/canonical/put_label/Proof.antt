@@ -14,23 +14,14 @@ one c = rw (lt-ltb (c .before .args .label) 10 (c .if1 .taken)) at (c .before .p
 two : (c : tie.Else1) → HasRoom 2 (c .before .args .start) (c .before .args .text .now)
 two c = rw (le-ltb (c .before .args .label) 10 (c .if1 .left)) at (c .before .pre)
 
-add-put-byte : tie.Need-add-put-byte
-add-put-byte c = search needs
-
 put-byte-requires : tie.Need-put-byte-requires
 put-byte-requires c κs = one (c .before)
 
 returns : tie.Need-returns
 returns c = rw (lt-ltb (c .before .before .before .args .label) 10 (c .before .before .if1 .taken)) (c .put-byte .ensures)
 
-add-put-byte-2 : tie.Need-add-put-byte-2
-add-put-byte-2 c = search needs
-
 put-byte-requires-2 : tie.Need-put-byte-requires-2
 put-byte-requires-2 c κs = less-room 1 (two (c .before)) (omega arith)
-
-add-put-byte-3 : tie.Need-add-put-byte-3
-add-put-byte-3 c = search needs
 
 put-byte-requires-3 : tie.Need-put-byte-requires-3
 put-byte-requires-3 c κs = room-left (c .before .put-byte2 .ensures) 1 (two (c .before .before .before)) (omega arith)
@@ -43,12 +34,5 @@ returns-2 c =
 pub put-label-spec : {M : Type 1} → statement M
 put-label-spec =
     tie.close
-    (tie.spec
-    add-put-byte
-    put-byte-requires
-    returns
-    add-put-byte-2
-    put-byte-requires-2
-    add-put-byte-3
-    put-byte-requires-3
+    (tie.spec (λ c. search needs) put-byte-requires returns (λ c. search needs) put-byte-requires-2 (λ c. search needs) put-byte-requires-3
     returns-2)

@@ -84,22 +84,5 @@ returns c = all-written (c .before .before .loop .inv) (c .if1 .left)
 pub write-text-spec : {M : Type 1} → statement M
 write-text-spec =
     tie.close
-    (tie.spec
-    Inv-loop
-    μ-loop
-    sub-at
-    add-waiting
-    shared-slice-read-waiting
-    array-write-waiting
-    loop-holds
-    sub-at-2
-    shared-slice-read-if2
-    missing-requires
-    loop-less
-    loop-again
-    add-met
-    shared-slice-read-met
-    met-requires
-    loop-less-2
-    loop-again-2
-    returns)
+    (tie.spec Inv-loop μ-loop sub-at add-waiting shared-slice-read-waiting array-write-waiting loop-holds sub-at-2 shared-slice-read-if2
+    missing-requires loop-less loop-again add-met shared-slice-read-met met-requires loop-less-2 loop-again-2 returns)

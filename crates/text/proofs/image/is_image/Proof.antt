@@ -138,26 +138,6 @@ returns-4 c = c .is-one-tree .ensures ∙ sym (ended (c .before))
 pub is-image-spec : {M : Type 1} → statement M
 is-image-spec =
     tie.close
-    (tie.spec
-    Inv-loop
-    μ-loop
-    loop-holds
-    add-loop
-    shared-slice-read-kind
-    add-label
-    shared-slice-read-label
-    add-at
-    is-pad-requires
-    add-trees
-    loop-less
-    loop-again
-    is-written-requires
-    returns
-    returns-2
-    sub-trees
-    add-nodes
-    loop-less-2
-    loop-again-2
-    returns-3
-    is-one-tree-requires
+    (tie.spec Inv-loop μ-loop loop-holds add-loop shared-slice-read-kind add-label shared-slice-read-label add-at is-pad-requires add-trees
+    loop-less loop-again is-written-requires returns returns-2 sub-trees add-nodes loop-less-2 loop-again-2 returns-3 is-one-tree-requires
     returns-4)

@@ -41,13 +41,4 @@ returns-2 c = comment-text-end _ _ _ (c .before .loop .inv) (c .loop-test .left)
 pub comment-end-spec : {M : Type 1} → statement M
 comment-end-spec =
     tie.close
-    (tie.spec
-    Inv-loop
-    μ-loop
-    loop-holds
-    shared-slice-read-if1
-    add-end
-    loop-less
-    loop-again
-    returns
-    returns-2)
+    (tie.spec Inv-loop μ-loop loop-holds shared-slice-read-if1 add-end loop-less loop-again returns returns-2)

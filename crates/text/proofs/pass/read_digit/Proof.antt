@@ -8,23 +8,8 @@ use Rattle.text.proofs.pass.read_digit.Tie as tie
 returns : tie.Need-returns
 returns c = number-begins _ _ (c .if1 .taken)
 
-stop-requires : tie.Need-stop-requires
-stop-requires c κs = search needs
-
 returns-2 : tie.Need-returns-2
 returns-2 c = c .stop .ensures ∙ leading-zero _ _ (c .before .before .before .if1 .left) (c .before .if2 .taken)
-
-mul-number : tie.Need-mul-number
-mul-number c = search needs
-
-add-number : tie.Need-add-number
-add-number c = search needs
-
-cast-if3 : tie.Need-cast-if3
-cast-if3 c = search needs
-
-stop-requires-2 : tie.Need-stop-requires-2
-stop-requires-2 c κs = search needs
 
 returns-3 : tie.Need-returns-3
 returns-3 c =
@@ -39,13 +24,5 @@ returns-4 c =
 pub read-digit-spec : {M : Type 1} → statement M
 read-digit-spec =
     tie.close
-    (tie.spec
-    returns
-    stop-requires
-    returns-2
-    mul-number
-    add-number
-    cast-if3
-    stop-requires-2
-    returns-3
-    returns-4)
+    (tie.spec returns (λ c κs. search needs) returns-2 (λ c. search needs) (λ c. search needs) (λ c. search needs) (λ c κs. search needs)
+    returns-3 returns-4)

@@ -5,15 +5,6 @@ use Rattle.text.proofs.Symbols.{blank-stays, closing-symbol, leaves-sam
 use Rattle.text.proofs.pass.read_symbol.Statement.{statement}
 use Rattle.text.proofs.pass.read_symbol.Tie as tie
 
-open-brackets-requires : tie.Need-open-brackets-requires
-open-brackets-requires c κs = search needs
-
-close-brackets-requires : tie.Need-close-brackets-requires
-close-brackets-requires c κs = search needs
-
-stop-requires : tie.Need-stop-requires
-stop-requires c κs = search needs
-
 returns : tie.Need-returns
 returns c = let start = c .before .before .before in blank-stays _ _ _ (start .pre .0) (start .pre .1) _ (c .match .keys1)
 
@@ -23,22 +14,10 @@ returns-2 c = let start = c .before .before .before in line-end-stays _ _ _ (sta
 returns-3 : tie.Need-returns-3
 returns-3 c = let start = c .before .before .before in mark-stays _ _ _ (start .pre .0) (start .pre .1) _ (c .match .keys3)
 
-same-length : tie.Need-same-length
-same-length c = search needs
-
-same-length-2 : tie.Need-same-length-2
-same-length-2 c = search needs
-
 returns-4 : tie.Need-returns-4
 returns-4 c =
     let call = c .before .before in
     leaves-same _ _ _ _ _ (call .open-brackets .ensures) (opening-symbol _ _ (call .before .before .before .match .keys4))
-
-same-length-3 : tie.Need-same-length-3
-same-length-3 c = search needs
-
-same-length-4 : tie.Need-same-length-4
-same-length-4 c = search needs
 
 returns-5 : tie.Need-returns-5
 returns-5 c =
@@ -54,17 +33,5 @@ returns-6 c =
 pub read-symbol-spec : {M : Type 1} → statement M
 read-symbol-spec =
     tie.close
-    (tie.spec
-    open-brackets-requires
-    close-brackets-requires
-    stop-requires
-    returns
-    returns-2
-    returns-3
-    same-length
-    same-length-2
-    returns-4
-    same-length-3
-    same-length-4
-    returns-5
-    returns-6)
+    (tie.spec (λ c κs. search needs) (λ c κs. search needs) (λ c κs. search needs) returns returns-2 returns-3 (λ c. search needs)
+    (λ c. search needs) returns-4 (λ c. search needs) (λ c. search needs) returns-5 returns-6)

@@ -83,20 +83,5 @@ returns c =
 pub read-text-spec : {M : Type 1} → statement M
 read-text-spec =
     tie.close
-    (tie.spec
-    Inv-loop
-    μ-loop
-    begin-requires
-    loop-holds
-    shared-slice-read-byte
-    read-byte-requires
-    add-at
-    comment-end-requires
-    loop-less
-    loop-again
-    loop-less-2
-    loop-again-2
-    end-number-requires
-    same-length
-    same-length-2
-    returns)
+    (tie.spec Inv-loop μ-loop begin-requires loop-holds shared-slice-read-byte read-byte-requires add-at comment-end-requires loop-less
+    loop-again loop-less-2 loop-again-2 end-number-requires same-length same-length-2 returns)

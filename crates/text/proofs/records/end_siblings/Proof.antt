@@ -18,9 +18,6 @@ put-branches-requires c κs =
     let k = j .before .before .before .before in
     branches-fit _ _ _ (k .before .before .before .before .before .pre) _ _ (k .put-pad-if .ensures) _ _ (j .put-record .ensures)
 
-same-length : tie.Need-same-length
-same-length c = search needs
-
 returns : tie.Need-returns
 returns c =
     let i = c .before .before in
@@ -31,4 +28,4 @@ returns c =
 pub end-siblings-spec : {M : Type 1} → statement M
 end-siblings-spec =
     tie.close
-    (tie.spec put-pad-if-requires put-record-requires put-branches-requires same-length returns)
+    (tie.spec put-pad-if-requires put-record-requires put-branches-requires (λ c. search needs) returns)

@@ -56,17 +56,5 @@ returns-2 c = branches-end _ _ _ _ _ _ _ (c .before .loop .inv) (c .loop-test .l
 pub put-branches-spec : {M : Type 1} → statement M
 put-branches-spec =
     tie.close
-    (tie.spec
-    Inv-loop
-    μ-loop
-    loop-holds
-    shared-slice-read-if1
-    shared-slice-read-put-record
-    put-record-requires
-    add-next
-    loop-less
-    loop-again
-    same-length
-    returns
-    same-length-2
-    returns-2)
+    (tie.spec Inv-loop μ-loop loop-holds shared-slice-read-if1 shared-slice-read-put-record put-record-requires add-next loop-less
+    loop-again same-length returns same-length-2 returns-2)

@@ -6,20 +6,8 @@ use Rattle.text.proofs.Growing.{adds-record}
 use Rattle.text.proofs.records.put_record.Statement.{statement}
 use Rattle.text.proofs.records.put_record.Tie as tie
 
-slice-write-image : tie.Need-slice-write-image
-slice-write-image c = search needs
-
-add-image : tie.Need-add-image
-add-image c = search needs
-
 slice-write-image-2 : tie.Need-slice-write-image-2
 slice-write-image-2 c = simp length-set (omega arith)
-
-add-result : tie.Need-add-result
-add-result c = search needs
-
-same-length : tie.Need-same-length
-same-length c = search needs
 
 returns : tie.Need-returns
 returns c = adds-record _ _ _ _ (c .pre)
@@ -27,4 +15,4 @@ returns c = adds-record _ _ _ _ (c .pre)
 pub put-record-spec : {M : Type 1} → statement M
 put-record-spec =
     tie.close
-    (tie.spec slice-write-image add-image slice-write-image-2 add-result same-length returns)
+    (tie.spec (λ c. search needs) (λ c. search needs) slice-write-image-2 (λ c. search needs) (λ c. search needs) returns)

@@ -4,27 +4,9 @@ use Rattle.text.proofs.Changes.{closing-closes, closing-stops}
 use Rattle.text.proofs.tokens.close_brackets.Statement.{statement}
 use Rattle.text.proofs.tokens.close_brackets.Tie as tie
 
-stop-requires : tie.Need-stop-requires
-stop-requires c κs = search needs
-
 returns : tie.Need-returns
 returns c =
     closing-stops _ _ _ (c .before .before .before .before .before .pre .1) (c .before .if1 .taken) _ (c .stop .ensures)
-
-end-siblings-requires : tie.Need-end-siblings-requires
-end-siblings-requires c κs = search needs
-
-close-first-requires : tie.Need-close-first-requires
-close-first-requires c κs = search needs
-
-sub-t13 : tie.Need-sub-t13
-sub-t13 c = search needs
-
-same-length : tie.Need-same-length
-same-length c = search needs
-
-same-length-2 : tie.Need-same-length-2
-same-length-2 c = search needs
 
 returns-2 : tie.Need-returns-2
 returns-2 c =
@@ -36,12 +18,5 @@ returns-2 c =
 pub close-brackets-spec : {M : Type 1} → statement M
 close-brackets-spec =
     tie.close
-    (tie.spec
-    stop-requires
-    returns
-    end-siblings-requires
-    close-first-requires
-    sub-t13
-    same-length
-    same-length-2
-    returns-2)
+    (tie.spec (λ c κs. search needs) returns (λ c κs. search needs) (λ c κs. search needs) (λ c. search needs) (λ c. search needs)
+    (λ c. search needs) returns-2)

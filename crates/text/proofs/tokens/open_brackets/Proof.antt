@@ -6,9 +6,6 @@ use Rattle.text.proofs.Changes.{label-inside, opening-opens, opening-st
 use Rattle.text.proofs.tokens.open_brackets.Statement.{statement}
 use Rattle.text.proofs.tokens.open_brackets.Tie as tie
 
-stop-requires : tie.Need-stop-requires
-stop-requires c κs = search needs
-
 returns : tie.Need-returns
 returns c =
     let start = c .before .before .before .before .before in
@@ -23,12 +20,6 @@ add-labels c = record { fits = omega (arith, c .before .before .before .before .
 slice-write-labels : tie.Need-slice-write-labels
 slice-write-labels c = label-inside _ _ _ (c .before .before .before .before .before .pre .1) (eq-eqb _ 1 (c .before .if1 .left))
 
-add-t : tie.Need-add-t
-add-t c = search needs
-
-same-length : tie.Need-same-length
-same-length c = search needs
-
 returns-2 : tie.Need-returns-2
 returns-2 c =
     let e = c .before .before in
@@ -38,12 +29,5 @@ returns-2 c =
 pub open-brackets-spec : {M : Type 1} → statement M
 open-brackets-spec =
     tie.close
-    (tie.spec
-    stop-requires
-    returns
-    slice-read-labels
-    add-labels
-    slice-write-labels
-    add-t
-    same-length
+    (tie.spec (λ c κs. search needs) returns slice-read-labels add-labels slice-write-labels (λ c. search needs) (λ c. search needs)
     returns-2)

@@ -5,12 +5,6 @@ use Rattle.text.proofs.Changes.{label-waits, number-stops, number-waits
 use Rattle.text.proofs.tokens.put_number.Statement.{statement}
 use Rattle.text.proofs.tokens.put_number.Tie as tie
 
-is-full-requires : tie.Need-is-full-requires
-is-full-requires c κs = search needs
-
-stop-requires : tie.Need-stop-requires
-stop-requires c κs = search needs
-
 returns : tie.Need-returns
 returns c =
     let k = c .before .before in
@@ -21,24 +15,6 @@ sub-first : tie.Need-sub-first
 sub-first c =
     let k = c .before .before in
     label-waits _ _ _ (k .before .before .before .pre .1) (sym (c .before .if1 .left) ∙ k .is-full .ensures)
-
-cast-labels : tie.Need-cast-labels
-cast-labels c = search needs
-
-slice-write-labels : tie.Need-slice-write-labels
-slice-write-labels c = search needs
-
-put-pad-if-requires : tie.Need-put-pad-if-requires
-put-pad-if-requires c κs = search needs
-
-add-t12 : tie.Need-add-t12
-add-t12 c = search needs
-
-same-length : tie.Need-same-length
-same-length c = search needs
-
-same-length-2 : tie.Need-same-length-2
-same-length-2 c = search needs
 
 returns-2 : tie.Need-returns-2
 returns-2 c =
@@ -51,15 +27,5 @@ returns-2 c =
 pub put-number-spec : {M : Type 1} → statement M
 put-number-spec =
     tie.close
-    (tie.spec
-    is-full-requires
-    stop-requires
-    returns
-    sub-first
-    cast-labels
-    slice-write-labels
-    put-pad-if-requires
-    add-t12
-    same-length
-    same-length-2
-    returns-2)
+    (tie.spec (λ c κs. search needs) (λ c κs. search needs) returns sub-first (λ c. search needs) (λ c. search needs) (λ c κs. search needs)
+    (λ c. search needs) (λ c. search needs) (λ c. search needs) returns-2)
