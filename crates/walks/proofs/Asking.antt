@@ -15,11 +15,11 @@ use prog.Wp.{Closed}
 use Rattle.paper.specs.declared.Record.{Record}
 use Rattle.paper.specs.Records.{blankEntry}
 use Rattle.walks.proofs.Arguments.{Lent, read, written}
-use Rattle.walks.proofs.Calls.{contract}
+use Rattle.walks.proofs.Contracts.{contract}
 use Rattle.walks.proofs.Entries.{Entry, EntryTy}
 use Rattle.walks.proofs.Functions as Functions
 use Rattle.walks.proofs.Functions.{Parameter, ends, lends, line, value, walks}
-use Rattle.walks.proofs.Lines.{asks, calls-last, local, off, on, relends, val}
+use Rattle.walks.proofs.Lines.{asks, calls-over-last, local, off, on, relends, val}
 use Rattle.walks.proofs.Locals.{bare, full, var}
 use Rattle.walks.proofs.Reading.{entry, reads-entry}
 use Rattle.walks.proofs.States.{Shape, Field, State, StateTy, field-fits, state-typed, state-value}
@@ -160,7 +160,7 @@ module _ (P : RattleType) (X : Shape) (at-field : Field X) (L : Law P X at-field
       reads-entry ! (s .args .0) (off (Work (x .work) long) ∷ []) n table-room (here .0)
       refl refl refl refl refl refl refl refl refl refl refl refl refl refl (λ r-good.
       relends ! refl refl refl (tt, tt) refl refl refl (slice-typed (work-room .0)) $
-      calls-last ! 𝓣 (off Table ∷ val (state-value X) (x .state) (ok .0) ∷ val entry r r-good ∷ on (Work (x .work) long) ∷ [])
+      calls-over-last ! 𝓣 (off Table ∷ val (state-value X) (x .state) (ok .0) ∷ val entry r r-good ∷ on (Work (x .work) long) ∷ [])
       (asks (L .Ask (x .state) r (x .work))) (state-value X) (λ t ws. L .Tell (x .state) r (x .work) t (ws .1 .1 .0)) _
       (known .0) (λ κs qs a ls. ((κs, qs, tt, a, ls), tt)) (λ ns. id⊢ 𝓤 _) (λ ns v. id⊢ 𝓤 _) (here .1)
       (λ ns. and-then ! (local ! refl) (and-then ! (local ! refl) (and-then ! (local ! refl) (no-more !)))) refl refl (λ t ws t-good longs told.

@@ -9,11 +9,11 @@ use mir.Syntax.{Name, Fn, Body as Code, erased, imm, mut, tyBool, tyUnit, tyRef,
 use mir.Syntax.{assign, block, loop, cond, exit, return, call, rvOpd, addrOf, aggregate}
 use Rattle.paper.specs.declared.Record.{Record}
 use Rattle.walks.proofs.Arguments.{Lent, read, shown, written}
-use Rattle.walks.proofs.Calls.{contract}
+use Rattle.walks.proofs.Contracts.{contract}
 use Rattle.walks.proofs.Entries.{Entry, EntryTy}
 use Rattle.walks.proofs.Functions as Functions
 use Rattle.walks.proofs.Functions.{Parameter, ends, lends, line, meets, value}
-use Rattle.walks.proofs.Lines.{Arg, asks, calls-arm, calls-over, local, none, off, on, relends, val}
+use Rattle.walks.proofs.Lines.{Arg, asks, calls-last, calls-over, local, none, off, on, relends, val}
 use Rattle.walks.proofs.Locals.{bare, full, var}
 use Rattle.walks.proofs.States.{Field, Shape, State, StateTy, field-fits, state-typed, state-value}
 use Rattle.walks.proofs.Steps.{slice-typed}
@@ -180,7 +180,7 @@ module _ (P : RattleType) (X : Shape) (storer : Storer) (from-field count-field 
           reads-field ! X from-field t refl refl refl (tt, from) $ reads-field ! X count-field t refl refl refl (tt, count) $
           relends ! refl refl refl (tt, tt) refl refl refl (slice-typed (s .known .0 .0 .1 .0)) $
           relends ! refl refl refl (tt, tt) refl refl refl (slice-typed (s .known .1 .1 .1 .1 .1 .0 .0 .1 .0)) $
-          calls-arm ! 𝓣 (on (Table (x .table) (same .0)) ∷ val (number w64) (from-field .value t) (refl, from .fits) ∷ off Input ∷ off Lists
+          calls-last ! 𝓣 (on (Table (x .table) (same .0)) ∷ val (number w64) (from-field .value t) (refl, from .fits) ∷ off Input ∷ off Lists
           ∷ off (Work w (long .1 .1 .0)) ∷ on (Shown b (long .1 .1 .1 .0)) ∷ val (number w64) (count-field .value t) (refl, count .fits) ∷ []) none unit
           (λ r us. us .0 ≡ storer .put (x .table) (from-field .value t) b (count-field .value t)) _
           known′ (λ κs qs a ls. ((κs, qs, tt, a, ls), tt)) (λ ns. id⊢ 𝓤 _) (λ ns v. id⊢ 𝓤 _) tt

@@ -11,11 +11,11 @@ use Rattle.paper.specs.declared.Record.{Record}
 use Rattle.paper.specs.Records.{blankEntry}
 use Rattle.walks.proofs.Arguments as Arguments
 use Rattle.walks.proofs.Arguments.{Lent, shown, written}
-use Rattle.walks.proofs.Calls.{contract}
+use Rattle.walks.proofs.Contracts.{contract}
 use Rattle.walks.proofs.Entries.{Entry, EntryTy}
 use Rattle.walks.proofs.Functions as Functions
 use Rattle.walks.proofs.Functions.{Parameter, ends, lends, line, meets, value}
-use Rattle.walks.proofs.Lines.{Arg, asks, calls-arm, calls-over, local, none, off, on, relends, val}
+use Rattle.walks.proofs.Lines.{Arg, asks, calls-last, calls-over, local, none, off, on, relends, val}
 use Rattle.walks.proofs.Locals.{bare, full, var}
 use Rattle.walks.proofs.Reading.{entry as entry-value, reads-entry}
 use Rattle.walks.proofs.States.{Field, Shape, State, StateTy, field-fits, state-typed, state-value}
@@ -44,8 +44,8 @@ module _ (P : RattleType) (X : Shape) (storer : Storer) (at-field from-field cou
   after = turned P X storer from-field count-field
 
   -- the entry that a turn reads
-  abbrev pub read : List Record → State X → Record
-  read source s = getD source (at-field .value s) blankEntry
+  abbrev pub entry-at : List Record → State X → Record
+  entry-at source s = getD source (at-field .value s) blankEntry
 
   -- the clauses of the two contracts, and what is to be shown of them: facts on plain values
   pub record Law : Type 1 where
@@ -61,10 +61,10 @@ module _ (P : RattleType) (X : Shape) (storer : Storer) (at-field from-field cou
     pub starts : (source : List Record) (x : Hand P X) → Ready source x → Before source x x
     -- a state that goes on reads inside the source
     pub asks : (source : List Record) (x₀ x : Hand P X) → Alike P X x₀ x → Before source x₀ x → X .going (x .state) ≡ true
-        → (at-field .value (x .state) < length source) × Ask (x .state) (read source (x .state)) (x .work) (x .batch)
+        → (at-field .value (x .state) < length source) × Ask (x .state) (entry-at source (x .state)) (x .work) (x .batch)
     pub onward : (source : List Record) (x₀ x : Hand P X) (s : State X) (w : List (P .Denot)) (b : List ℕ) → Alike P X x₀ x
         → Alike P X x₀ (after (x .table) s w b) → Before source x₀ x → X .going (x .state) ≡ true
-        → Tell (x .state) (read source (x .state)) (x .work) (x .batch) s w b
+        → Tell (x .state) (entry-at source (x .state)) (x .work) (x .batch) s w b
         → Before source x₀ (after (x .table) s w b) × (falls source (after (x .table) s w b) < falls source x)
     pub stops : (source : List Record) (x₀ x : Hand P X) → Before source x₀ x → X .going (x .state) ≡ false → Copied source x₀ x
 
@@ -182,7 +182,7 @@ module _ (P : RattleType) (X : Shape) (storer : Storer) (at-field from-field cou
           (λ x ok goes q again.
           let same = ok .1 .0 in
           let n = at-field .value (x .state) in
-          let r = read P X storer at-field from-field count-field source (x .state) in
+          let r = entry-at P X storer at-field from-field count-field source (x .state) in
           let ask = L .asks source x₀ x same (ok .1 .1) goes in
           reads-field ! X at-field (x .state) refl refl refl (tt, field-fits X W (x .state) (ok .0) at-field) $
           reads-entry ! (s .args .0) (Others x ok) n (s .known .0 .0 .1) (ask .0) refl refl refl refl refl refl refl refl refl refl refl refl refl refl (λ r-good.
@@ -201,7 +201,7 @@ module _ (P : RattleType) (X : Shape) (storer : Storer) (at-field from-field cou
           reads-field ! X from-field t refl refl refl (tt, from) $ reads-field ! X count-field t refl refl refl (tt, count) $
           relends ! refl refl refl (tt, tt) refl refl refl (slice-typed (s .known .1 .1 .1 .0 .0 .1 .0)) $
           relends ! refl refl refl (tt, tt) refl refl refl (slice-typed (s .known .1 .1 .1 .1 .0 .0 .1 .0)) $
-          calls-arm ! 𝓣 (off Source ∷ off (Work w (long .0)) ∷ on (Target (x .table) (same .0)) ∷ val (number w64) (from-field .value t) (refl, from .fits)
+          calls-last ! 𝓣 (off Source ∷ off (Work w (long .0)) ∷ on (Target (x .table) (same .0)) ∷ val (number w64) (from-field .value t) (refl, from .fits)
           ∷ on (Shown b (long .1 .0)) ∷ val (number w64) (count-field .value t) (refl, count .fits) ∷ []) none unit
           (λ r us. us .0 ≡ storer .put (x .table) (from-field .value t) b (count-field .value t)) _
           known′ (λ κs qs a ls. ((κs, qs, tt, a, ls), tt)) (λ ns. id⊢ 𝓤 _) (λ ns v. id⊢ 𝓤 _) tt

@@ -3,7 +3,7 @@ pub mod Steps
 pub mod Locals
 pub mod Loops
 pub mod Parameters
-pub mod Calls
+pub mod Contracts
 pub mod Lending
 pub mod Entries
 pub mod Arrays

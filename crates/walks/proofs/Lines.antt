@@ -1,6 +1,6 @@
 -- A straight line of calls, each lent any number of things of any kind. The walk has all that the function holds in one item (`held`), and then its
 -- locals: local i stands at 2 * i behind it, so no step of a walk names a position. A call says of each thing held whether it is passed or kept back.
--- First the arguments and what stands in the context for them; then a call (`calls`, `calls-over`, `calls-last`, `calls-arm`); then the statements
+-- First the arguments and what stands in the context for them; then a call (`calls`, `calls-over`, `calls-over-last`, `calls-last`); then the statements
 -- before a call, by which a slice is lent on, measured, or an array made; last the things held in another order.
 -- Assumes `Given`.
 use Rattle.walks.proofs.Prelude.{ℕ, _*_, ftrue, flft, Fml, SProp, ent, sep, emp, id⊢, via, fact, yes, sliceTy, sliceVal, nothing, heard}
@@ -261,15 +261,15 @@ module _ {M : Type 1} {𝓤 : URA M} {H : Heap 𝓤} {A : Atoms 𝓤} {W : Given
         land ! (from ! (stop !)) (store ! (suc (2 * i)) there (result-typed W P typed r good)) $ k r ws good longs told) ns))
 
   -- as the last statement of a turn, into a local that is filled
-  pub calls-last : {v₀ : Val} → Calling 𝓤 H A W Γ E p f os i (filled 𝓤 H E i v₀) (call f os (place i [])) (λ 𝓣. prop (post 𝓤 H p next))
-  calls-last t 𝓣 xs need P Told c known y before after m reads there typed k =
+  pub calls-over-last : {v₀ : Val} → Calling 𝓤 H A W Γ E p f os i (filled 𝓤 H E i v₀) (call f os (place i [])) (λ 𝓣. prop (post 𝓤 H p next))
+  calls-over-last t 𝓣 xs need P Told c known y before after m reads there typed k =
       lent-out W Γ xs c (at c xs y) tt need before m (λ ns. calls-at-last ! (fmOf 𝓤 H (W .laws) 𝓣) c known (at c xs y ns) (reads ns)
       (returned W Γ xs c (at c xs y) P Told after (λ v. settles E (place i []) v p) (λ v. tt) (λ r ws good longs told.
       land-last ! (from ! (stop !)) (store ! (suc (2 * i)) there (result-typed W P typed r good)) $ k r ws good longs told) ns))
 
   -- as the last statement of a turn or an arm, into a local that holds nothing
-  pub calls-arm : Calling 𝓤 H A W Γ E p f os i (empty 𝓤 H E i) (call f os (place i [])) (λ 𝓣. prop (post 𝓤 H p next))
-  calls-arm t 𝓣 xs need P Told c known y before after m reads there typed k =
+  pub calls-last : Calling 𝓤 H A W Γ E p f os i (empty 𝓤 H E i) (call f os (place i [])) (λ 𝓣. prop (post 𝓤 H p next))
+  calls-last t 𝓣 xs need P Told c known y before after m reads there typed k =
       lent-out W Γ xs c (at c xs y) tt need before m (λ ns. calls-at-last ! (fmOf 𝓤 H (W .laws) 𝓣) c known (at c xs y ns) (reads ns)
       (returned W Γ xs c (at c xs y) P Told after (λ v. settles E (place i []) v p) (λ v. tt) (λ r ws good longs told.
       land-last ! (from ! (stop !)) (init ! (suc (2 * i)) there (result-typed W P typed r good)) $ k r ws good longs told) ns))

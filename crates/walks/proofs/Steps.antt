@@ -1,7 +1,7 @@
 -- The commonest operands and assignments of a walk. A local's cell stands at a position of the context, and an equation says so, which is `refl`
 -- wherever the context is written out. First what is of the machine types that the walks hold, then the operands, the assignment, the literals.
 -- Assumes `Given`.
-use mathlib.Core.Path.{_≡_, refl, sym, subst}
+use mathlib.Core.Path.{_≡_, sym, subst}
 use Prim.Native.Nat.{ℕ, zero, _+_, _<_, _^_}
 use mathlib.Core.List.{List, [], _∷_}
 use mathlib.Core.Option.{some}
@@ -16,11 +16,7 @@ use base.Fml.{Share, fat, froom}
 use prog.Memory.{fieldAt}
 use prog.Wp.{Heap, Env, Spot, spotOf, Calls, Loops}
 use ghost.Atoms.{Atoms}
-use denote.Builtin.{usize}
-use denote.Laws.{Is}
-use denote.Plain.{uint-makes}
-use denote.Steps.{owned}
-use types.Kit.{nth, put, Given, Item, ‵, Go, !, Goal, runs, Post, Step}
+use types.Kit.{nth, put, Given, Item, ‵, Go, !, runs, Post, Step}
 use types.Part.{Part, whole, sub, look-in}
 use types.Run.{Opd, Rv, Reads, Walks, look, init, from, stop, fld, hop, load, addr, assigns}
 
@@ -82,8 +78,3 @@ rv-is {W = W} {Γ = Γ} {E = E} {r = r} e x = subst (λ (w : Val). Rv (Go {0}) W
 pub big-lit : {M : Type 1} {𝓤 : URA M} {H : Heap 𝓤} {A : Atoms 𝓤} {W : Given 𝓤 H A} {Γ : List (Item 𝓤)} {E : Env 𝓤 H} {w : Width} {n : ℕ} → Fits w n
     → Opd (Go {0}) W Γ E (intBig w n) (vint w n)
 big-lit {𝓤 = 𝓤} {w = w} {n = n} z = record { go = λ Kt h. via 𝓤 (Kt (vint w n)) h (guardI 𝓤 (Fits w n) (Kt (vint w n)) z) }
-
--- what a usize owns is had for nothing
-pub owns-number : {M : Type 1} {𝓤 : URA M} {H : Heap 𝓤} {A : Atoms 𝓤} {W : Given 𝓤 H A} {Γ : List (Item 𝓤)} {G : Goal 𝓤 H}
-    → Go {0} → (n : ℕ) → n < 2 ^ 64 → Step (Go {0}) W (‵ (usize .own n (vint w64 n ∷ [])) ∷ Γ) G Γ G
-owns-number {𝓤 = 𝓤} {H = H} {A = A} {W = W} t n small = owned ! usize (Is usize) (uint-makes 𝓤 H A W w64) n (vint w64 n ∷ []) (refl, small)

@@ -4,7 +4,7 @@
 use Rattle.walks.proofs.Prelude.{_<_, _≡_, _∙_, _∷_, [], emp, fact, length, now, subst, sym, u16, w64, ℕ}
 use Rattle.walks.proofs.Prelude.{Atoms, Clauses, Contract, Heap, List, RattleType, URA}
 use Rattle.paper.specs.declared.Record.{Record}
-use Rattle.walks.proofs.Calls.{contract}
+use Rattle.walks.proofs.Contracts.{contract}
 use Rattle.walks.proofs.Entries.{Entry}
 use Rattle.walks.proofs.Functions.{Parameter, lends, line, read, value, written}
 use Rattle.walks.proofs.States.{Field, Shape, State}
