@@ -11,7 +11,6 @@ use lib.ListN.{drop, getD, length}
 use lib.Seq.{getD-take}
 use Rattle.paper.specs.declared.Fixed.{Fixed}
 use Rattle.paper.specs.declared.Head.{Head}
-use Rattle.paper.specs.declared.Refusal.{Refusal}
 use Rattle.paper.specs.declared.Refusal.the-variants.{UnitTwice}
 use Rattle.paper.specs.Answers.{told}
 use Rattle.paper.specs.Questions.{fixedSet, imageOf, imagesOf, unitTwice, without}
@@ -25,37 +24,34 @@ use Rattle.sound.specs.declared.verdict.Ruling.{Ruling}
 use Rattle.sound.specs.declared.verdict.Ruling.the-variants.{Answer, Refused}
 use Rattle.sound.specs.declared.verdict.Verdict.{Verdict}
 use Rattle.sound.specs.Face.{Weighs}
-use Rattle.sound.specs.Verdicts.{OwnTest, cleared, replyOf, rulingOf, verdictOf}
+use Rattle.sound.specs.Verdicts.{OwnTest, cleared, replyOf, rulingAfter, rulingOf, verdictOf}
 use Rattle.sound.proofs.Answered.{sound-length, sound-room, sound-set}
-use Rattle.sound.proofs.Replying.{Holds, answered, leaves, replies}
+use Rattle.sound.proofs.Replying.{Holds, answered, leaves, no-answer, replies}
 use Rattle.table.proofs.Sets.{set-number}
 use Rattle.fix.specs.Face.{Fixes}
 use Rattle.fix.specs.Passes.{ImagesDone, MayRecord, Numbered, Ready, RecordsDone, newRecords}
 use Rattle.fix.specs.Sets.{Record, Set, at, empty, setAfter, setIn, unit}
 use Rattle.fix.specs.States.{State, started}
-use Rattle.fix.specs.Start.{afterImages, behind, ifAnswered, recordsOf, testAfter, testsBefore}
+use Rattle.fix.specs.Start.{afterImages, ifAnswered, recordsOf, testAfter, ownTests}
 use Rattle.fix.specs.Answer.{Finishes, MayFinish, headAfter}
 use Rattle.fix.proofs.ImageSteps.{at-hand, few-records}
 
 -- ---- rulings
 -- the tests of one list, and behind them those of another
-in-turn : (ts us : List OwnTest) → rulingOf (ts ++ us) ≡ behind (rulingOf ts) (rulingOf us)
+in-turn : (ts us : List OwnTest) → rulingOf (ts ++ us) ≡ rulingAfter (rulingOf ts) (rulingOf us)
 in-turn [] us = refl
 in-turn (t ∷ ts) us = go (t .1) (in-turn ts us)
   where
-    go : (c : Bool) → rulingOf (ts ++ us) ≡ behind (rulingOf ts) (rulingOf us)
-        → cond c (rulingOf (ts ++ us)) (Refused (t .0)) ≡ behind (cond c (rulingOf ts) (Refused (t .0))) (rulingOf us)
+    go : (c : Bool) → rulingOf (ts ++ us) ≡ rulingAfter (rulingOf ts) (rulingOf us)
+        → cond c (rulingOf (ts ++ us)) (Refused (t .0)) ≡ rulingAfter (cond c (rulingOf ts) (Refused (t .0))) (rulingOf us)
     go true more = more
     go false more = refl
 
-behind-same : (x : Ruling) {y z : Ruling} → (x ≡ Answer → y ≡ z) → behind x y ≡ behind x z
-behind-same Answer same = same refl
-behind-same (Refused why) same = refl
+after-same : (x : Ruling) {y z : Ruling} → (x ≡ Answer → y ≡ z) → rulingAfter x y ≡ rulingAfter x z
+after-same Answer same = same refl
+after-same (Refused why) same = refl
 
-no-answer : {why : Refusal} → Refused why ≡ Answer → ⊥
-no-answer e = omega (arith, ap (λ (x : Ruling). ifAnswered x 1) e)
-
-both-answer : (x : Ruling) (twice : Bool) → behind x (testAfter twice) ≡ Answer → (x ≡ Answer) × (twice ≡ false)
+both-answer : (x : Ruling) (twice : Bool) → rulingAfter x (testAfter twice) ≡ Answer → (x ≡ Answer) × (twice ≡ false)
 both-answer Answer false e = (refl, refl)
 both-answer Answer true e = absurd (no-answer e)
 both-answer (Refused why) twice e = absurd (no-answer e)
@@ -66,9 +62,9 @@ at-most Answer most = most refl
 at-most (Refused why) most = omega arith
 
 module _ {h : Head} {source : List Record} {work work₁ : List ℕ} {w : Weighed} (W : Weighs h source work w work₁) (place n : ℕ) (target : List Record)
-    {v : Verdict} (v-is : v ≡ verdictOf w (rulingOf (testsBefore h place n (length target))) (h .used)) where
+    {v : Verdict} (v-is : v ≡ verdictOf w (rulingOf (ownTests h place n (length target))) (h .used)) where
   abbrev before : List OwnTest
-  before = testsBefore h place n (length target)
+  before = ownTests h place n (length target)
 
   abbrev fixed : Head × List Record
   fixed = fixedSet h source place n
@@ -139,10 +135,10 @@ module _ {h : Head} {source : List Record} {work work₁ : List ℕ} {w : Weighe
 
     -- the second verdict is that of all four tests
     abbrev own : Ruling
-    own = behind (rulingOf before) (testAfter (t .twice))
+    own = rulingAfter (rulingOf before) (testAfter (t .twice))
 
     judged : w ≡ WeighedIs.Sound → own ≡ rulingOf (before ++ after)
-    judged said = behind-same (rulingOf before) (λ e. ap testAfter (found (is ∙ e) .twice)) ∙ sym (in-turn before after)
+    judged said = after-same (rulingOf before) (λ e. ap testAfter (found (is ∙ e) .twice)) ∙ sym (in-turn before after)
       where
         is : v .ruling ≡ rulingOf before
         is = ap (λ (x : Verdict). x .ruling) v-is ∙ ap (λ (x : Weighed). verdictOf x (rulingOf before) (h .used) .ruling) said

@@ -4,9 +4,9 @@
 ghost use Rattle.fix.specs.Face.{Fixes};
 ghost use Rattle.fix.specs.Passes.{Ready, ImagesDone, MayRecord, RecordsDone};
 use crate::answer::finish;
+use crate::start::after_images;
 use crate::start::begin;
-use crate::start::judge;
-use crate::start::judge_images;
+use crate::start::verdict;
 use crate::state::State;
 use crate::turn::image_turn;
 use crate::turn::record_turn;
@@ -35,10 +35,10 @@ pub fn fix(
 {
     let w = sound::weigh(head, source, &mut *work);
     let entries = target.len();
-    let v = judge(w, head, place, node, entries);
+    let v = verdict(w, head, place, node, entries);
     let s = begin(v, place, node);
     let t = images(source, s, &mut *work);
-    let u = judge_images(v, t);
+    let u = after_images(v, t);
     let second = begin(u, place, node);
     // Room for the one record of a turn.
     let mut batch: [u16; RECORD_NUMBERS] = [0; RECORD_NUMBERS];

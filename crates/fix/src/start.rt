@@ -2,7 +2,7 @@
 // with.
 ghost use mathlib.Core.Path.{_≡_};
 ghost use Rattle.sound.specs.Verdicts.{rulingOf, verdictOf};
-ghost use Rattle.fix.specs.Start.{afterImages, recordsOf, testsBefore};
+ghost use Rattle.fix.specs.Start.{afterImages, recordsOf, ownTests};
 ghost use Rattle.fix.specs.States.{started};
 use crate::state::State;
 use paper::Head;
@@ -12,10 +12,11 @@ use sound::Ruling;
 use sound::Verdict;
 use sound::Weighed;
 use sound::rule;
+use sound::rule_after;
 
 // The tests 7, 8 and 6, as the paper orders them.
 fn tests(head: Head, place: u16, node: u16, entries: usize) -> Ruling
-    ensures { λ r. ⌜ r ≡ rulingOf (testsBefore head place node entries) ⌝ }
+    ensures { λ r. ⌜ r ≡ rulingOf (ownTests head place node entries) ⌝ }
 {
     if !is_open(head, place) {
         return Ruling::Refused(Refusal::Place);
@@ -32,30 +33,21 @@ fn tests(head: Head, place: u16, node: u16, entries: usize) -> Ruling
 }
 
 // What can be told before the images: 5 and 11 by what `weigh` said, then the tests.
-pub(crate) fn judge(w: Weighed, head: Head, place: u16, node: u16, entries: usize) -> Verdict
-    ensures { λ v. ⌜ v ≡ verdictOf w (rulingOf (testsBefore head place node entries)) (head .used) ⌝ }
+pub(crate) fn verdict(w: Weighed, head: Head, place: u16, node: u16, entries: usize) -> Verdict
+    ensures { λ v. ⌜ v ≡ verdictOf w (rulingOf (ownTests head place node entries)) (head .used) ⌝ }
 {
     let own = tests(head, place, node, entries);
     rule(w, own, head.used)
 }
 
 // What can be told after them: 12, where the first pass has stopped at a union of unit and unit.
-pub(crate) fn judge_images(v: Verdict, t: State) -> Verdict
+pub(crate) fn after_images(v: Verdict, t: State) -> Verdict
     ensures { λ u. ⌜ u ≡ afterImages v (t .twice) ⌝ }
 {
-    let ruling = v.ruling;
-    match ruling {
-        Ruling::Refused(_) => v,
-        Ruling::Answer => {
-            if t.twice {
-                return Verdict {
-                    ruling: Ruling::Refused(Refusal::UnitTwice),
-                    clear: v.clear,
-                };
-            }
-            v
-        }
+    if t.twice {
+        return rule_after(v, Ruling::Refused(Refusal::UnitTwice));
     }
+    rule_after(v, Ruling::Answer)
 }
 
 // How many records a pass has: all that are used, each with a number to be cleared; none where the fix

@@ -32,19 +32,19 @@ use Rattle.member.specs.Answer.{Finishes}
 use Rattle.member.specs.Driving.{Driven, Ready, Starts}
 use Rattle.member.specs.Face.{Members}
 use Rattle.member.specs.Pass.{State}
-use Rattle.member.specs.Start.{begun, rowTests}
+use Rattle.member.specs.Start.{begun, ownTests}
 use Rattle.member.proofs.Restricted.{fits-restricted, restricted, restricted-none}
 
 module _ {h : Head} {table : List Record} {work work₁ : List ℕ} (row : Row) {w : Weighed} (W : Weighs h table work w work₁)
-    {v : Verdict} (ruled : v ≡ verdictOf w (rulingOf (rowTests h row)) (h .used)) where
+    {v : Verdict} (ruled : v ≡ verdictOf w (rulingOf (ownTests h row)) (h .used)) where
   -- whether one with this set lists the row
   abbrev listedBy : Set → Bool
   listedBy set = isListed (setRows (h .arity) (listings (h .arity) (usedOf h table)) set) row
 
   -- ---- a question that is answered is of a sound set, and its row fits
   module _ (answers : v .ruling ≡ Answer) where
-    fits : (w ≡ Sound) × Holds (rowTests h row)
-    fits = answered W (rowTests h row) (listedBy (h .set)) (rulingOf (rowTests h row)) (λ _. refl) cc
+    fits : (w ≡ Sound) × Holds (ownTests h row)
+    fits = answered W (ownTests h row) (listedBy (h .set)) (rulingOf (ownTests h row)) (λ _. refl) cc
 
     long : length row ≡ h .arity
     long = eqb-true (length row) (h .arity) (fits .1 .0)
@@ -84,8 +84,8 @@ module _ {h : Head} {table : List Record} {work work₁ : List ℕ} (row : Row) 
     pub face : {e : State} {work₂ work₃ : List ℕ} {r : Member} → length work₁ ≡ length work → length work₂ ≡ length work → Driven table s work₁ e work₂
         → Finishes e v work₂ r work₃ → Members h table work row r work₃
     face {e} {work₂} same-length same-length′ D F = record {
-      answer = F .answer ∙ rw ruled (replies W (rowTests h row) (listedBy (h .set)) (rulingOf (rowTests h row)) (λ _. refl) (e .listed) (λ answers.
+      answer = F .answer ∙ rw ruled (replies W (ownTests h row) (listedBy (h .set)) (rulingOf (ownTests h row)) (λ _. refl) (e .listed) (λ answers.
           ⊎-elim (λ z. ap (λ (t : State). t .listed) (D .still (z .0) .0) ∙ z .1 cc) (λ z. D .listed h row (z .1)) stops-or-goes));
-      worked = F .worked ∙ rw ruled (leaves W (rowTests h row) (listedBy (h .set)) (rulingOf (rowTests h row)) (λ _. refl) (omega arith, (omega arith, tt))
+      worked = F .worked ∙ rw ruled (leaves W (ownTests h row) (listedBy (h .set)) (rulingOf (ownTests h row)) (λ _. refl) (omega arith, (omega arith, tt))
           work₂ (same-length′ ∙ sym same-length) (⊎-elim (λ z. rw (D .still (z .0) .1)) (λ z. rw (z .0) (D .rest h row (z .1))) stops-or-goes));
     }

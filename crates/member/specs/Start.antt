@@ -21,8 +21,8 @@ abbrev pub entryFits : Bool → ℕ → ℕ → Bool
 entryFits open-place nodes x = cond open-place (ltb x nodes) (eqb x blank)
 
 -- 13, then 8
-abbrev pub rowTests : Head → Row → List OwnTest
-rowTests h row = (RowLength, eqb (length row) (h .arity)) ∷ (Node, entriesFit h 0 row) ∷ []
+abbrev pub ownTests : Head → Row → List OwnTest
+ownTests h row = (RowLength, eqb (length row) (h .arity)) ∷ (Node, entriesFit h 0 row) ∷ []
 
 -- where a row fits: empty lists none, unit the one that is all blank
 abbrev pub firstOf : Set → Row → State

@@ -8,7 +8,7 @@ ghost use Rattle.sound.specs.Verdicts.{rulingOf, verdictOf};
 ghost use Rattle.sound.specs.declared.verdict.Ruling.the-variants.{Answer};
 ghost use Rattle.member.specs.Pass.{stopped};
 ghost use Rattle.member.specs.Rows.{padded};
-ghost use Rattle.member.specs.Start.{begun, entryFits, firstOf, rowTests};
+ghost use Rattle.member.specs.Start.{begun, entryFits, firstOf, ownTests};
 use crate::pass::State;
 use paper::Head;
 use paper::Place;
@@ -51,8 +51,8 @@ fn entries_fit(head: Head, row: &[u16]) -> bool
 
 // The tests of the row: 13, then 8, as the paper orders them. Entries are looked at only where there is
 // one for each place.
-fn row_tests(head: Head, row: &[u16]) -> Ruling
-    ensures { λ r. ⌜ r ≡ rulingOf (rowTests head (now (row .entry))) ⌝ }
+fn tests(head: Head, row: &[u16]) -> Ruling
+    ensures { λ r. ⌜ r ≡ rulingOf (ownTests head (now (row .entry))) ⌝ }
 {
     if row.len() != head.arity as usize {
         return Ruling::Refused(Refusal::RowLength);
@@ -65,9 +65,9 @@ fn row_tests(head: Head, row: &[u16]) -> Ruling
 
 // The verdict. The row is tested in any case, but that counts only where the set is sound.
 pub(crate) fn verdict(w: Weighed, head: Head, row: &[u16]) -> Verdict
-    ensures { λ v. ⌜ v ≡ verdictOf w (rulingOf (rowTests head (now (row .entry)))) (head .used) ⌝ }
+    ensures { λ v. ⌜ v ≡ verdictOf w (rulingOf (ownTests head (now (row .entry)))) (head .used) ⌝ }
 {
-    let own = row_tests(head, row);
+    let own = tests(head, row);
     rule(w, own, head.used)
 }
 

@@ -17,7 +17,7 @@ use sound::rule;
 use sound::set_rows;
 
 // The question's own tests: 9 before 10, as the paper orders them.
-fn own(head: Head, work: &[u64], number: u64, room: usize) -> Ruling
+fn tests(head: Head, work: &[u64], number: u64, room: usize) -> Ruling
     ensures { λ r. ⌜ r ≡ rulingOf (ownTests head (now (work .entry)) number room) ⌝ }
 {
     let set = head.set;
@@ -35,7 +35,7 @@ fn own(head: Head, work: &[u64], number: u64, room: usize) -> Ruling
 pub(crate) fn verdict(w: Weighed, head: Head, work: &[u64], number: u64, room: usize) -> Verdict
     ensures { λ v. ⌜ v ≡ verdictOf w (rulingOf (ownTests head (now (work .entry)) number room)) (head .used) ⌝ }
 {
-    rule(w, own(head, work, number, room), head.used)
+    rule(w, tests(head, work, number, room), head.used)
 }
 
 // The record where the first descent begins. Empty and unit have none, and no descent: empty has no

@@ -33,7 +33,7 @@ Holds [] = Unit {0}
 Holds (t ∷ ts) = (t .1 ≡ true) × Holds ts
 
 -- ---- the question's own tests, one after the other
-no-answer : {why : Refusal} → RulingIs.Refused why ≡ RulingIs.Answer → ⊥
+pub no-answer : {why : Refusal} → RulingIs.Refused why ≡ RulingIs.Answer → ⊥
 no-answer e = refused-not-answer (ap (λ (ruling : Ruling). replyOf {A = Unit {0}} ruling tt) e)
 
 all-hold : (ts : List OwnTest) → rulingOf ts ≡ RulingIs.Answer → Holds ts

@@ -30,6 +30,14 @@ abbrev pub verdictOf : Weighed → Ruling → ℕ → Verdict
 verdictOf WeighedIs.Sound own used = record { ruling = own; clear = used }
 verdictOf (WeighedIs.Refused why) own used = record { ruling = RulingIs.Refused why; clear = 0 }
 
+-- a test more, which counts where those before it hold
+abbrev pub rulingAfter : Ruling → Ruling → Ruling
+rulingAfter RulingIs.Answer more = more
+rulingAfter (RulingIs.Refused why) more = RulingIs.Refused why
+
+abbrev pub verdictAfter : Verdict → Ruling → Verdict
+verdictAfter v more = record { ruling = rulingAfter (v .ruling) more; clear = v .clear }
+
 -- what a ruling says, of a question whose answer is a
 abbrev pub replyOf : {A : Type 0} → Ruling → A → Reply A
 replyOf RulingIs.Answer a = answer a

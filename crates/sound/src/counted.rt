@@ -1,5 +1,5 @@
-// The end of `count`: the rows of the set, by the weights that `weigh` has left, and the cleared
-// work.
+// The end of `count`: its verdict, the rows of the set, by the weights that `weigh` has left, and the
+// cleared work.
 ghost use Rattle.sound.specs.Counting.{Finishes};
 use crate::Ruling;
 use crate::Weighed;

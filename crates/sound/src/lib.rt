@@ -35,6 +35,7 @@ pub use weight::rows_in;
 pub use verdict::Ruling;
 pub use verdict::Verdict;
 pub use verdict::rule;
+pub use verdict::rule_after;
 
 // What `weigh` found. Where the set is sound, the work has the weights of its used records.
 pub enum Weighed {

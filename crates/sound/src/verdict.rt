@@ -1,8 +1,8 @@
 // The verdict of a question, once its set has been weighed: whether it is answered or refused, and how
-// much of the work is to be cleared at its end. Every question makes its verdict here, and carries it
-// beside the state of its pass: a pass of a question that is refused makes no turn.
+// much of the work is to be cleared at its end. Every verdict is made here. A question that has a pass
+// carries it beside the state of the pass, which takes no turn where the question is refused.
 ghost use mathlib.Core.Path.{_≡_};
-ghost use Rattle.sound.specs.Verdicts.{verdictOf};
+ghost use Rattle.sound.specs.Verdicts.{verdictAfter, verdictOf};
 use crate::Weighed;
 use paper::Refusal;
 
@@ -32,6 +32,21 @@ pub fn rule(w: Weighed, own: Ruling, used: u16) -> Verdict
         Weighed::Sound => Verdict {
             ruling: own,
             clear: used as usize,
+        },
+    }
+}
+
+// With a test more, of a question that finds out in its pass whether it is refused: it counts where the
+// tests before it hold. What is to be cleared stays.
+pub fn rule_after(v: Verdict, more: Ruling) -> Verdict
+    ensures { λ u. ⌜ u ≡ verdictAfter v more ⌝ }
+{
+    let ruling = v.ruling;
+    match ruling {
+        Ruling::Refused(_) => v,
+        Ruling::Answer => Verdict {
+            ruling: more,
+            clear: v.clear,
         },
     }
 }

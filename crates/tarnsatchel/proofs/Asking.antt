@@ -18,7 +18,7 @@ use prog.Routine.{Env as REnv}
 use prog.Wp.{Closed, Env, spotOf}
 use types.Kit.{nth, put}
 use Rattle.walks.proofs.Arguments.{Lent, aside, spent}
-use Rattle.walks.proofs.Calls.{contract}
+use Rattle.walks.proofs.Contracts.{contract}
 use Rattle.walks.proofs.Functions.{Known, Left, Parameter, Shapes, Start, given-reference, handed-in, lends, line, machines, mine, tokens, walks}
 use Rattle.walks.proofs.Lines.{Arg, calls, empty, filled, held, local, none, off, on, val}
 use Rattle.walks.proofs.Locals.{Blocks, Params, bare, envOf, fulls, locals}

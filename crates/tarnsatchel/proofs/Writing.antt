@@ -14,7 +14,7 @@ use package.contract.Running.{GhostRules, Running}
 use prog.Model.{Model}
 use prog.Routine.{Env as REnv}
 use prog.Wp.{Closed}
-use Rattle.walks.proofs.Calls.{contract}
+use Rattle.walks.proofs.Contracts.{contract}
 use Rattle.walks.proofs.Functions.{line}
 use Rattle.walks.proofs.Locals.{var}
 use Rattle.walks.proofs.Values.{Of}

@@ -17,11 +17,11 @@ use types.Part.{look-in, whole}
 use types.Run.{Rv, branches, fld, skips}
 use Rattle.walks.proofs.Arguments.{Lent, array, array-read, read, written}
 use Rattle.walks.proofs.Arrays.{copies, length-copies, numbers}
-use Rattle.walks.proofs.Calls.{contract}
+use Rattle.walks.proofs.Contracts.{contract}
 use Rattle.walks.proofs.Entries.{Entry}
 use Rattle.walks.proofs.Functions as Functions
 use Rattle.walks.proofs.Functions.{Callee, Left, Meet, Parameter, Start, ends, lends, mine, walks}
-use Rattle.walks.proofs.Lines.{Arg, asks, calls, calls-arm, empty, filled, fills, gives-up, held, here, lends-own, local, makes, measures}
+use Rattle.walks.proofs.Lines.{Arg, asks, calls, calls-last, empty, filled, fills, gives-up, held, here, lends-own, local, makes, measures}
 use Rattle.walks.proofs.Lines.{none, off, on, rearranges, relends, val}
 use Rattle.walks.proofs.Locals.{Blocks, Hold, bare, envOf, full, locals}
 use Rattle.walks.proofs.States.{fails, holds}
@@ -218,7 +218,7 @@ module _ {M : Type 1} (𝓤 : URA M) (H : Heap 𝓤) (A : Atoms 𝓤) (W : Given
                 (λ ns. and-then ! (local ! refl) (and-then ! (local ! refl) (no-more !))) refl refl (λ r vs good-answer long₃ finishes.
                 fills ! refl (of-opd ! (part ! (suc (2 * last-local)) refl refl refl)) (tt, tt) $ first ! $ branches ! (here ! refl) (λ many.
                 relends ! refl refl refl (tt, tt) refl refl refl (slice-typed (s .known .1 .1 .0 .0 .1 .0)) $
-                calls-arm ! 𝓣 (off Input ∷ off (Work (vs .1 .0) (long₃ .0)) ∷ on Table₂ ∷ []) none unit
+                calls-last ! 𝓣 (off Input ∷ off (Work (vs .1 .0) (long₃ .0)) ∷ on Table₂ ∷ []) none unit
                 (λ _ ts. ts .0 ≡ replicate (length table₂) blankEntry) _ (known .1 .1 .1 .0) (λ κs qs a ls. ((κs, qs, tt, a, ls), tt)) (λ ns. id⊢ 𝓤 _)
                 (λ ns v. id⊢ 𝓤 _) tt (λ ns. and-then ! (local ! refl) (no-more !)) refl refl (λ _ ts _ long₄ blanked.
                 exec ! (𝓣 .C) (𝓣 .Λ) env _ _ $ closes ! r (vs .1 .0) (ts .0) (long₃ .0) (long₄ .0) good-answer

@@ -19,10 +19,10 @@ use Rattle.sound.proofs.Heads.{head, judged, weighed}
 use Rattle.fix.proofs.StateShape.{shape}
 use Rattle.fix.proofs.Facing.{face, may-finish, may-image, may-record}
 use Rattle.sound.proofs.weigh as weigh
-use Rattle.fix.proofs.start.judge as judge
+use Rattle.fix.proofs.start.verdict as verdict
 use Rattle.fix.proofs.start.begin as begin
 use Rattle.fix.proofs.images as images
-use Rattle.fix.proofs.start.judge_images as judge-images
+use Rattle.fix.proofs.start.after_images as after-images
 use Rattle.fix.proofs.records as records
 use Rattle.fix.proofs.answer.finish as finish
 use Rattle.fix.proofs.fix as fix
@@ -38,6 +38,10 @@ state = state-value shape
 abbrev short : Value
 short = number w16
 
+-- the local of its array
+abbrev batch-local : ℕ
+batch-local = 14
+
 abbrev parameters : List (Parameter 3)
 parameters =
     value head ∷ lends (Functions.read 0 tt Entry) ∷ lends (Functions.written 1 tt u64) ∷ value short ∷ value short
@@ -47,17 +51,17 @@ pub fix-spec : {M : Type 1} → stated.statement M
 unfolding code.routine tablesOf
 fix-spec 𝓤 H 𝓜 𝓖 𝓡 =
     let weigh-met = cited 𝓤 H _ 𝓜 𝓡 code.env weigh.Symbol.name weigh.Symbol.routine code.calls-sound·weigh (weigh.Met.met 𝓤 H 𝓜 𝓖 𝓡) in
-    let judge-met = cited 𝓤 H _ 𝓜 𝓡 code.env judge.Symbol.name judge.Symbol.routine code.calls-fix·start·judge (judge.Met.met 𝓤 H 𝓜 𝓖 𝓡) in
+    let verdict-met = cited 𝓤 H _ 𝓜 𝓡 code.env verdict.Symbol.name verdict.Symbol.routine code.calls-fix·start·verdict (verdict.Met.met 𝓤 H 𝓜 𝓖 𝓡) in
     let begin-met = cited 𝓤 H _ 𝓜 𝓡 code.env begin.Symbol.name begin.Symbol.routine code.calls-fix·start·begin (begin.Met.met 𝓤 H 𝓜 𝓖 𝓡) in
     let images-met = cited 𝓤 H _ 𝓜 𝓡 code.env images.Symbol.name images.Symbol.routine code.calls-fix·images (images.Met.met 𝓤 H 𝓜 𝓖 𝓡) in
-    let judge-images-met = cited 𝓤 H _ 𝓜 𝓡 code.env judge-images.Symbol.name judge-images.Symbol.routine code.calls-fix·start·judge-images (judge-images.Met.met 𝓤 H 𝓜 𝓖 𝓡) in
+    let after-images-met = cited 𝓤 H _ 𝓜 𝓡 code.env after-images.Symbol.name after-images.Symbol.routine code.calls-fix·start·after-images (after-images.Met.met 𝓤 H 𝓜 𝓖 𝓡) in
     let records-met = cited 𝓤 H _ 𝓜 𝓡 code.env records.Symbol.name records.Symbol.routine code.calls-fix·records (records.Met.met 𝓤 H 𝓜 𝓖 𝓡) in
     let finish-met = cited 𝓤 H _ 𝓜 𝓡 code.env finish.Symbol.name finish.Symbol.routine code.calls-fix·answer·finish (finish.Met.met 𝓤 H 𝓜 𝓖 𝓡) in
     walks 𝓤 H 𝓜 𝓖 𝓡 parameters answer (fix.clauses 𝓤 H (𝓖 .A) (𝓜 .mem) (𝓡 .run)) (λ κs a. none) code.env fix.Key.name code.function (code.unfolded 𝓤 H 𝓜 𝓡)
     (λ κs a g. id⊢ 𝓤 _) (λ κs qs a are. id⊢ 𝓤 _) (λ κs qs a are. id⊢ 𝓤 _) (λ s bs shapes. shapes)
-    ((weigh.Symbol.name, _) ∷ (judge.Symbol.name, _) ∷ (begin.Symbol.name, _) ∷ (images.Symbol.name, _) ∷ (judge-images.Symbol.name, _)
+    ((weigh.Symbol.name, _) ∷ (verdict.Symbol.name, _) ∷ (begin.Symbol.name, _) ∷ (images.Symbol.name, _) ∷ (after-images.Symbol.name, _)
     ∷ (records.Symbol.name, _) ∷ (finish.Symbol.name, _) ∷ [])
-    (weigh-met, (judge-met, (begin-met, (images-met, (judge-images-met, (records-met, (finish-met, tt)))))))
+    (weigh-met, (verdict-met, (begin-met, (images-met, (after-images-met, (records-met, (finish-met, tt)))))))
     (λ 𝓣 known s bs.
     let h = s .args .0 in
     let work = now (s .args .1 .1 .0) in
@@ -116,7 +120,7 @@ fix-spec 𝓤 H 𝓜 𝓖 𝓡 =
     let made : Lent = Target (zs .1 .1 .1 .0) (long″ .1 .1 .0) in
     let last : Arg = off (Batch (zs .1 .1 .1 .1 .0) (long″ .1 .1 .1 .0)) in
     rearranges ! (off Source ∷ off same ∷ off made ∷ last ∷ []) (last ∷ off Source ∷ off same ∷ off made ∷ []) (3 ∷ []) refl $
-    gives-up ! (off Source ∷ off same ∷ off made ∷ []) (numbers w16) block 5 (lit< tt, lit< tt) (zs .1 .1 .1 .1 .0) (long″ .1 .1 .1 .0) 14 $
+    gives-up ! (off Source ∷ off same ∷ off made ∷ []) (numbers w16) block 5 (lit< tt, lit< tt) (zs .1 .1 .1 .1 .0) (long″ .1 .1 .1 .0) batch-local $
     relends ! refl refl refl (tt, tt) refl refl refl (slice-typed (work-good .0)) $
     calls ! 𝓣 (off Source ∷ val state e e-good ∷ val judged u u-good ∷ Head ∷ on same ∷ off made ∷ []) (asks _) answer _ _
     (known .1 .1 .1 .1 .1 .1 .0) (λ κs qs a ls. ((κs, qs, tt, a, ls), tt)) (λ ns. id⊢ 𝓤 _) (λ ns v. id⊢ 𝓤 _)

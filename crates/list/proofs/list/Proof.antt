@@ -2,16 +2,15 @@
 -- stands in `Answering`.
 -- Assumes nothing.
 use Rattle.walks.proofs.Prelude.{ !, _$_, agg, and-then, arith, cited, emp, factI, givenOf, id⊢, length, lit, lit<, no-more, now, refl, tablesOf, u64, u8, w64}
-use Rattle.walks.proofs.Prelude.{List, [], Room, _*_, _∷_, _≡_, _≤_, ℕ}
-use Prim.Native.Nat.{suc}
+use Rattle.walks.proofs.Prelude.{List, [], Room, _∷_, _≡_, _≤_, ℕ}
 use Rattle.walks.proofs.Arguments.{Lent, array, array-read, read, written}
 use Rattle.walks.proofs.Arrays.{copies, entries, length-copies, numbers}
 use Rattle.walks.proofs.Entries.{Entry, blank-good, typed}
 use Rattle.walks.proofs.Functions as Functions
 use Rattle.walks.proofs.Functions.{Parameter, ends, lends, mine, walks}
-use Rattle.walks.proofs.Lines.{Arg, asks, calls, gives-up, lends-own, local, makes, none, off, on, rearranges, relends, val}
+use Rattle.walks.proofs.Lines.{Arg, asks, calls, fills, gives-up, lends-own, local, makes, none, off, on, rearranges, relends, val}
 use Rattle.walks.proofs.Locals.{bare, full}
-use Rattle.walks.proofs.Steps.{big-lit, sets, slice-typed}
+use Rattle.walks.proofs.Steps.{big-lit, slice-typed}
 use Rattle.walks.proofs.Values.{Value, enum}
 use Rattle.paper.specs.declared.Record.{Record}
 use Rattle.paper.specs.Records.{blankEntry}
@@ -42,6 +41,13 @@ table-room = (lit< tt, lit< tt)
 work-room : Room u64 16384
 work-room = (lit< tt, lit< tt)
 
+-- the locals of its arrays
+abbrev table-local : ℕ
+table-local = 4
+
+abbrev work-local : ℕ
+work-local = 5
+
 abbrev parameters : List (Parameter 2)
 parameters = lends (Functions.read 0 tt u8) ∷ lends (Functions.written 1 tt u8) ∷ []
 
@@ -70,7 +76,7 @@ list-spec 𝓤 H 𝓜 𝓖 𝓡 =
     let Blank : Lent = Table (copies 2000 blankEntry) (length-copies {X = Record} 2000 blankEntry) in
     let Zeros : Lent = Work (copies 16384 0) (length-copies {X = ℕ} 16384 0) in
     let to-build : List Arg = on Input ∷ on Zeros ∷ on Blank ∷ off (Text text refl) ∷ [] in
-    sets ! (suc (2 * 3)) refl (agg ! (and-then ! (lit ! tt) (and-then ! (lit ! tt) (and-then ! (lit ! tt) (and-then ! (lit ! tt) (and-then ! (lit ! tt)
+    fills ! refl (agg ! (and-then ! (lit ! tt) (and-then ! (lit ! tt) (and-then ! (lit ! tt) (and-then ! (lit ! tt) (and-then ! (lit ! tt)
     (no-more !))))))) (typed (givenOf 𝓤 H 𝓜 𝓖) blankEntry blank-good) $
     makes ! (mine s) entries (bs .1 .1 .1 .1 .0) blankEntry table-room blank-good refl refl (local ! refl) $
     makes ! (off Blank ∷ mine s) (numbers w64) (bs .1 .1 .1 .1 .1 .0) 0 work-room (refl, lit< tt) refl refl (lit ! tt) $
@@ -114,8 +120,8 @@ list-spec 𝓤 H 𝓜 𝓖 𝓡 =
     (λ ns. and-then ! (local ! refl) (and-then ! (local ! refl) (and-then ! (local ! refl) (and-then ! (local ! refl) (and-then ! (local ! refl)
     (and-then ! (local ! refl) (no-more !))))))) refl refl (λ e es e-good e-long told.
     let last : Lent = Text (es .1 .1 .1 .1 .0) (e-long .1 .1 .0) in
-    gives-up ! (off (Work (es .1 .1 .1 .0) (e-long .1 .0)) ∷ off last ∷ off Input ∷ []) entries (bs .1 .1 .1 .1 .0) 2000 table-room t t-long 4 $
-    gives-up ! (off last ∷ off Input ∷ []) (numbers w64) (bs .1 .1 .1 .1 .1 .0) 16384 work-room (es .1 .1 .1 .0) (e-long .1 .0) 5 $
+    gives-up ! (off (Work (es .1 .1 .1 .0) (e-long .1 .0)) ∷ off last ∷ off Input ∷ []) entries (bs .1 .1 .1 .1 .0) 2000 table-room t t-long table-local $
+    gives-up ! (off last ∷ off Input ∷ []) (numbers w64) (bs .1 .1 .1 .1 .1 .0) 16384 work-room (es .1 .1 .1 .0) (e-long .1 .0) work-local $
     rearranges ! (off last ∷ off Input ∷ []) (off Input ∷ off last ∷ []) (1 ∷ []) refl $
     ends ! s e e-good (tt, (es .1 .1 .1 .1 .0, tt)) (tt, (e-long .1 .1 .0, tt)) (factI 𝓤 _ (emp 𝓤) (tells .1 e (es .1 .1 .1 .1 .0) told))
     (full _ ∷ full _ ∷ full _ ∷ bare ∷ bare ∷ full _ ∷ full _ ∷ full _ ∷ full _ ∷ full _ ∷ full _ ∷ full _

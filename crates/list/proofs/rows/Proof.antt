@@ -5,11 +5,11 @@ use Rattle.walks.proofs.Prelude.{ !, _$_, and-then, cited, emp, factI, givenOf,
 use Rattle.walks.proofs.Prelude.{List, [], Room, _∷_, _≡_, ℕ}
 use Rattle.walks.proofs.Arguments.{Lent, array, array-read, read, written}
 use Rattle.walks.proofs.Arrays.{copies, length-copies, numbers}
-use Rattle.walks.proofs.Calls.{contract}
+use Rattle.walks.proofs.Contracts.{contract}
 use Rattle.walks.proofs.Entries.{Entry}
 use Rattle.walks.proofs.Functions as Functions
 use Rattle.walks.proofs.Functions.{Parameter, ends, lends, mine, value, walks}
-use Rattle.walks.proofs.Lines.{Arg, asks, calls, calls-last, gives-up, lends-own, local, makes, none, off, on, rearranges, relends, val}
+use Rattle.walks.proofs.Lines.{Arg, asks, calls, calls-over-last, gives-up, lends-own, local, makes, none, off, on, rearranges, relends, val}
 use Rattle.walks.proofs.Locals.{bare, full}
 use Rattle.walks.proofs.States.{field-fits, state-typed}
 use Rattle.walks.proofs.Steps.{slice-typed}
@@ -36,6 +36,10 @@ answer = enum A.the-type A′.the-laws A′.the-plain A′.the-copy tt
 
 row-room : Room u16 4
 row-room = (lit< tt, lit< tt)
+
+-- the local of its array
+abbrev row-local : ℕ
+row-local = 7
 
 abbrev parameters : List (Parameter 4)
 parameters = value head ∷ lends (Functions.read 0 tt Entry) ∷ value page ∷ lends (Functions.written 1 tt u64) ∷ lends (Functions.written 2 tt u8)
@@ -96,7 +100,7 @@ rows-spec 𝓤 H 𝓜 𝓖 𝓡 =
     let o = ws .1 .1 .1 .1 .0 in
     lends-own ! refl refl refl (tt, tt) refl refl (slice-typed (lit< tt)) (lit ! tt) $
     relends ! refl refl refl (tt, tt) refl refl refl (slice-typed (s .known .1 .1 .1 .1 .0 .0 .1 .0)) $
-    calls-last ! 𝓣 (off Table ∷ off (Work w (long .1 .0)) ∷ val page (x .page) (ok .0) ∷ val answer r r-good ∷ on (Shown o (long .1 .1 .0)) ∷ on Input
+    calls-over-last ! 𝓣 (off Table ∷ off (Work w (long .1 .0)) ∷ val page (x .page) (ok .0) ∷ val answer r r-good ∷ on (Shown o (long .1 .1 .0)) ∷ on Input
     ∷ on (Text (x .text) (ok .1 .text-long)) ∷ []) (asks (LineReady input (x .page) (saysWritten r) o (x .text))) page
     (λ t ms. Lines (x .page) (saysWritten r) o (x .text) t (ms .1 .1 .1 .1 .0)) _
     (known .1 .0) (λ κs qs a ls. ((κs, qs, tt, a, ls), tt)) (λ ns. id⊢ 𝓤 _) (λ ns v. id⊢ 𝓤 _)
@@ -112,7 +116,7 @@ rows-spec 𝓤 H 𝓜 𝓖 𝓡 =
     rearranges ! (Held x ok) (off (Row (x .row) (ok .1 .row-long)) ∷ off Table ∷ off (Work (x .work) (ok .1 .work-long))
     ∷ off (Text (x .text) (ok .1 .text-long)) ∷ off Input ∷ []) (2 ∷ 0 ∷ 0 ∷ 1 ∷ []) refl $
     gives-up ! (off Table ∷ off (Work (x .work) (ok .1 .work-long)) ∷ off (Text (x .text) (ok .1 .text-long)) ∷ off Input ∷ [])
-    (numbers w16) block 4 row-room (x .row) (ok .1 .row-long) 7 $
+    (numbers w16) block 4 row-room (x .row) (ok .1 .row-long) row-local $
     ends ! s (x .page) (ok .0) (bound head h, (tt, (bound page p, (x .work, (x .text, (tt, tt)))))) (tt, (ok .1 .work-long, (ok .1 .text-long, (tt, tt))))
     (factI 𝓤 _ (emp 𝓤) (stops h table p work text input ready x (ok .1) over))
     (full _ ∷ full _ ∷ full _ ∷ full _ ∷ full _ ∷ full _ ∷ bare ∷ full _ ∷ bare ∷ bare ∷ full _ ∷ []))

@@ -1,10 +1,10 @@
--- `start::row_tests` tests the row.
+-- `start::tests` tests the row.
 use native.Mathlib.Omega.{arith}
 use borrow.Author.Needs.{needs}
 use borrow.Author.Tests.{eq-eqb, ne-eqb, not-false, not-true}
 use lib.ListN.{length}
-use Rattle.member.proofs.start.row_tests.Statement.{statement}
-use Rattle.member.proofs.start.row_tests.Tie as tie
+use Rattle.member.proofs.start.tests.Statement.{statement}
+use Rattle.member.proofs.start.tests.Tie as tie
 
 returns : tie.Need-returns
 returns c =
@@ -31,5 +31,5 @@ returns-3 c =
       not-false (call .entries-fit .result) (c .if2 .left),
     )
 
-pub row-tests-spec : {M : Type 1} → statement M
-row-tests-spec = tie.close (tie.spec (λ c. search needs) returns (λ c κs. search needs) returns-2 returns-3)
+pub tests-spec : {M : Type 1} → statement M
+tests-spec = tie.close (tie.spec (λ c. search needs) returns (λ c κs. search needs) returns-2 returns-3)

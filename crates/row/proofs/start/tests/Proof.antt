@@ -1,10 +1,10 @@
--- `start::own` tests the row number and the room.
+-- `start::tests` tests the row number and the room.
 use native.Mathlib.Omega.{arith}
 use borrow.Author.Needs.{needs}
 use borrow.Author.Tests.{le-leb, le-ltb, lt-leb, lt-ltb}
 use Rattle.sound.specs.Counting.{rowsInSet}
-use Rattle.row.proofs.start.own.Statement.{statement}
-use Rattle.row.proofs.start.own.Tie as tie
+use Rattle.row.proofs.start.tests.Statement.{statement}
+use Rattle.row.proofs.start.tests.Tie as tie
 
 returns : tie.Need-returns
 returns c =
@@ -21,5 +21,5 @@ returns-3 c =
     let a = c .before .before .before .before .before .args in
     rw (lt-ltb (a .number) (rowsInSet (a .work .now) (a .head .set)) (omega arith), le-leb (a .head .arity) (a .room) (omega arith))
 
-pub own-spec : {M : Type 1} → statement M
-own-spec = tie.close (tie.spec (λ c κs. search needs) returns (λ c. search needs) returns-2 returns-3)
+pub tests-spec : {M : Type 1} → statement M
+tests-spec = tie.close (tie.spec (λ c κs. search needs) returns (λ c. search needs) returns-2 returns-3)
