@@ -11,8 +11,8 @@ use places::is_open;
 use sound::Ruling;
 use sound::Verdict;
 use sound::Weighed;
-use sound::rule;
-use sound::rule_after;
+use sound::verdict_after;
+use sound::verdict_of;
 
 // The tests 7, 8 and 6, as the paper orders them.
 fn tests(head: Head, place: u16, node: u16, entries: usize) -> Ruling
@@ -37,7 +37,7 @@ pub(crate) fn verdict(w: Weighed, head: Head, place: u16, node: u16, entries: us
     ensures { λ v. ⌜ v ≡ verdictOf w (rulingOf (ownTests head place node entries)) (head .used) ⌝ }
 {
     let own = tests(head, place, node, entries);
-    rule(w, own, head.used)
+    verdict_of(w, own, head.used)
 }
 
 // What can be told after them: 12, where the first pass has stopped at a union of unit and unit.
@@ -45,9 +45,9 @@ pub(crate) fn after_images(v: Verdict, t: State) -> Verdict
     ensures { λ u. ⌜ u ≡ afterImages v (t .twice) ⌝ }
 {
     if t.twice {
-        return rule_after(v, Ruling::Refused(Refusal::UnitTwice));
+        return verdict_after(v, Ruling::Refused(Refusal::UnitTwice));
     }
-    rule_after(v, Ruling::Answer)
+    verdict_after(v, Ruling::Answer)
 }
 
 // How many records a pass has: all that are used, each with a number to be cleared; none where the fix

@@ -30,7 +30,7 @@ firstOf empty row = stopped false
 firstOf unit row = stopped true
 firstOf (at i) row = record { at = 0; root = i; row = padded row; listed = false; going = true }
 
--- a question that is refused makes no turn
+-- a question that is refused takes no turn
 abbrev pub begun : Ruling → Set → Row → State
 begun Answer set row = firstOf set row
 begun (Refused why) set row = stopped false

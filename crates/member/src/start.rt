@@ -18,7 +18,7 @@ use paper::limits::MOST_PLACES;
 use sound::Ruling;
 use sound::Verdict;
 use sound::Weighed;
-use sound::rule;
+use sound::verdict_of;
 
 // Whether an entry fits its place: a node of the tree at an open one, blank at a fixed one.
 fn entry_fits(open_place: bool, nodes: u16, entry: u16) -> bool
@@ -68,7 +68,7 @@ pub(crate) fn verdict(w: Weighed, head: Head, row: &[u16]) -> Verdict
     ensures { λ v. ⌜ v ≡ verdictOf w (rulingOf (ownTests head (now (row .entry)))) (head .used) ⌝ }
 {
     let own = tests(head, row);
-    rule(w, own, head.used)
+    verdict_of(w, own, head.used)
 }
 
 // The row, blank behind its end: no record of a sound set has a place there.

@@ -14,7 +14,7 @@ use sound::Ruling;
 use sound::Verdict;
 use sound::Weighed;
 use sound::clear;
-use sound::rule;
+use sound::verdict_of;
 
 // Its own tests: 7, then 10.
 fn tests(head: Head, place: u16, room: usize) -> Ruling
@@ -34,7 +34,7 @@ pub(crate) fn verdict(w: Weighed, head: Head, place: u16, room: usize) -> Verdic
     ensures { λ v. ⌜ v ≡ verdictOf w (rulingOf (ownTests head place room)) (head .used) ⌝ }
 {
     let own = tests(head, place, room);
-    rule(w, own, head.used)
+    verdict_of(w, own, head.used)
 }
 
 // The pass at the root, if the set has one: its record is marked. Empty has no row, so no byte is 1

@@ -13,8 +13,8 @@ use paper::limits::MOST_PLACES;
 use sound::Ruling;
 use sound::Verdict;
 use sound::Weighed;
-use sound::rule;
 use sound::set_rows;
+use sound::verdict_of;
 
 // The question's own tests: 9 before 10, as the paper orders them.
 fn tests(head: Head, work: &[u64], number: u64, room: usize) -> Ruling
@@ -35,7 +35,7 @@ fn tests(head: Head, work: &[u64], number: u64, room: usize) -> Ruling
 pub(crate) fn verdict(w: Weighed, head: Head, work: &[u64], number: u64, room: usize) -> Verdict
     ensures { λ v. ⌜ v ≡ verdictOf w (rulingOf (ownTests head (now (work .entry)) number room)) (head .used) ⌝ }
 {
-    rule(w, tests(head, work, number, room), head.used)
+    verdict_of(w, tests(head, work, number, room), head.used)
 }
 
 // The record where the first descent begins. Empty and unit have none, and no descent: empty has no

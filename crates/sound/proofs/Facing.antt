@@ -30,19 +30,36 @@ use Rattle.sound.proofs.Overwriting.{over-is, zeros-agree}
 use Rattle.sound.proofs.WeightParts.{below-sixteen, flag-in}
 
 -- ---- the head
-abbrev HeadFits : Head → ℕ → Type 0
-HeadFits h entries = (1 ≤ h .nodes) × ((h .nodes ≤ 4095) × ((1 ≤ h .arity) × ((h .arity ≤ 4) × ((h .open_places < 2 ^ h .arity)
-    × ((h .used ≤ 60000) × ((h .used ≤ entries) × Unit {0}))))))
+pub record HeadFits (h : Head) (entries : ℕ) : Type 0 where
+  pub some-nodes : 1 ≤ h .nodes
+  pub few-nodes : h .nodes ≤ 4095
+  pub some-places : 1 ≤ h .arity
+  pub few-places : h .arity ≤ 4
+  pub open-below : h .open_places < 2 ^ h .arity
+  pub few-used : h .used ≤ 60000
+  pub used-there : h .used ≤ entries
 
 says-head : (h : Head) (entries : ℕ) → Says (headFits h entries) (HeadFits h entries)
 unfolding headFits
 says-head h entries =
-    says-and (says-at-most 1 (h .nodes))
+    Iff·trans
+    (says-and (says-at-most 1 (h .nodes))
     (says-and (says-at-most (h .nodes) 4095)
     (says-and (says-at-most 1 (h .arity))
     (says-and (says-at-most (h .arity) 4)
     (says-and (says-below (h .open_places) (2 ^ h .arity))
-    (says-and (says-at-most (h .used) 60000) (says-and (says-at-most (h .used) entries) says-nothing))))))
+    (says-and (says-at-most (h .used) 60000) (says-and (says-at-most (h .used) entries) says-nothing))))))) (
+      λ (a, (b, (c, (d, (e, (f, (g, u))))))). record {
+        some-nodes = a;
+        few-nodes = b;
+        some-places = c;
+        few-places = d;
+        open-below = e;
+        few-used = f;
+        used-there = g;
+      },
+      λ f. (f .some-nodes, (f .few-nodes, (f .some-places, (f .few-places, (f .open-below, (f .few-used, (f .used-there, tt))))))),
+    )
 
 module _ (h : Head) (table : List Record) (work : List ℕ) where
   -- the state that the pass begins with
@@ -59,8 +76,8 @@ module _ (h : Head) (table : List Record) (work : List ℕ) where
   ready = record {
     first = refl;
     goes = refl;
-    places = λ e. begins-true e .1 .1 .1 .1 .0;
-    entries = λ e. begins-true e .1 .1 .1 .1 .1 .1 .1 .0;
+    places = λ e. begins-true e .1 .few-places;
+    entries = λ e. begins-true e .1 .used-there;
     room = λ e. begins-true e .0;
   }
 
@@ -91,18 +108,18 @@ module _ (h : Head) (table : List Record) (work : List ℕ) where
       passes-sound : e .sound ≡ true → setFits h weighed (h .set) ≡ true → Sound h table
       passes-sound passed set =
           let (began, W) = P .passes passed in
-          let (nodes, (most-nodes, (places, (most-places, (within, (used, (there, _))))))) = begins-true began .1 in
+          let head = begins-true began .1 in
           record {
-            some-nodes = nodes;
-            few-nodes = most-nodes;
-            some-places = places;
-            few-places = most-places;
-            open-below = within;
-            few-used = used;
-            used-there = there;
+            some-nodes = head .some-nodes;
+            few-nodes = head .few-nodes;
+            some-places = head .some-places;
+            few-places = head .few-places;
+            open-below = head .open-below;
+            few-used = head .few-used;
+            used-there = head .used-there;
             records = λ i l. W .sound i l .test;
             few-rows = λ i l. W .sound i l .few;
-            set = says-set most-places W (h .set) .0 set;
+            set = says-set (head .few-places) W (h .set) .0 set;
           }
 
       -- what is sound passes
@@ -110,9 +127,15 @@ module _ (h : Head) (table : List Record) (work : List ℕ) where
       sound-passes S = (passed, says-set (S .few-places) (P .passes passed .1) (h .set) .1 (S .set))
         where
           head : headFits h (length table) ≡ true
-          head =
-              says-head h (length table) .1
-              (S .some-nodes, (S .few-nodes, (S .some-places, (S .few-places, (S .open-below, (S .few-used, (S .used-there, tt)))))))
+          head = says-head h (length table) .1 record {
+            some-nodes = S .some-nodes;
+            few-nodes = S .few-nodes;
+            some-places = S .some-places;
+            few-places = S .few-places;
+            open-below = S .open-below;
+            few-used = S .few-used;
+            used-there = S .used-there;
+          }
 
           began : start .sound ≡ true
           began = rw (le-leb (h .used) (length work) room) head

@@ -1,5 +1,5 @@
 -- From the parts of a question to its contract: the law of a question's face. A question is refused by `weigh`, or by the first of its own tests
--- that fails, or it answers; `rule` has made its verdict of that. First the question's own tests alone; then behind those of `weigh`: what a ruling
+-- that fails, or it answers; `verdict_of` has made its verdict of that. First the question's own tests alone; then behind those of `weigh`: what a ruling
 -- to answer means, that the ruling is the paper's reply, and that the work cleared is the work that the reply leaves.
 use mathlib.Core.Bool.{Bool, cond, false, true}
 use mathlib.Core.List.{List, [], _++_, _∷_}

@@ -4,8 +4,8 @@ ghost use Rattle.sound.specs.Counting.{Finishes};
 use crate::Ruling;
 use crate::Weighed;
 use crate::clear;
-use crate::rule;
 use crate::set_rows;
+use crate::verdict_of;
 use paper::Counted;
 use paper::Head;
 
@@ -14,7 +14,7 @@ use paper::Head;
 pub(crate) fn finish(w: Weighed, head: Head, work: &mut [u64]) -> Counted
     ensures { λ r. ⌜ Finishes w head (now (work .entry)) r (now (work .exit)) ⌝ }
 {
-    let v = rule(w, Ruling::Answer, head.used);
+    let v = verdict_of(w, Ruling::Answer, head.used);
     let set = head.set;
     let rows = set_rows(set, &*work);
     clear(&mut *work, v.clear);

@@ -34,8 +34,8 @@ pub use weight::rows_in;
 // So is the verdict.
 pub use verdict::Ruling;
 pub use verdict::Verdict;
-pub use verdict::rule;
-pub use verdict::rule_after;
+pub use verdict::verdict_after;
+pub use verdict::verdict_of;
 
 // What `weigh` found. Where the set is sound, the work has the weights of its used records.
 pub enum Weighed {
@@ -64,8 +64,8 @@ pub fn count(head: Head, table: &[Record], work: &mut [u64]) -> Counted
 }
 
 // All used records, one after the other. It ends behind the last of them, since `at` rises by 1 a
-// turn, or at the first that is not sound. A loop over a slice of structs is proved by hand, so all
-// that is done with a record stands in `next`.
+// turn, or at the first that is not sound. Such a loop over a slice of structs is
+// proved by a law of its shape (`walks`), so all that is done with a record stands in `next`.
 fn drive(table: &[Record], s: State, work: &mut [u64]) -> State
     requires { ⌜ Ready (now table) s (now work) ⌝ }
     ensures { λ e. ⌜ Passed (now (table .entry)) s (now (work .entry)) e (now (work .exit)) ⌝ }

@@ -1,6 +1,7 @@
 // The verdict of a question, once its set has been weighed: whether it is answered or refused, and how
 // much of the work is to be cleared at its end. Every verdict is made here. A question that has a pass
-// carries it beside the state of the pass, which takes no turn where the question is refused.
+// carries it beside the state of the pass, which takes no turn where the question is refused before
+// it.
 ghost use mathlib.Core.Path.{_≡_};
 ghost use Rattle.sound.specs.Verdicts.{verdictAfter, verdictOf};
 use crate::Weighed;
@@ -21,7 +22,7 @@ pub struct Verdict {
 // By what `weigh` has found, and what the question's own tests come to, which count only where the set
 // is sound. `weigh` leaves the work of a set that it refuses as a refusal does, so nothing of it is to
 // be cleared; else the used records have each a number there.
-pub fn rule(w: Weighed, own: Ruling, used: u16) -> Verdict
+pub fn verdict_of(w: Weighed, own: Ruling, used: u16) -> Verdict
     ensures { λ v. ⌜ v ≡ verdictOf w own used ⌝ }
 {
     match w {
@@ -38,7 +39,7 @@ pub fn rule(w: Weighed, own: Ruling, used: u16) -> Verdict
 
 // With a test more, of a question that finds out in its pass whether it is refused: it counts where the
 // tests before it hold. What is to be cleared stays.
-pub fn rule_after(v: Verdict, more: Ruling) -> Verdict
+pub fn verdict_after(v: Verdict, more: Ruling) -> Verdict
     ensures { λ u. ⌜ u ≡ verdictAfter v more ⌝ }
 {
     let ruling = v.ruling;

@@ -10,13 +10,13 @@ returns : tie.Need-returns
 returns c =
     let cleared = c .before .before .before .before .before in
     let ruled = cleared .before .before .before .before in
-    ends (ruled .rule .ensures) (c .before .ruling .given .1) refl (cleared .clear .ensures)
+    ends (ruled .verdict-of .ensures) (c .before .ruling .given .1) refl (cleared .clear .ensures)
 
 returns-2 : tie.Need-returns-2
 returns-2 c =
     let cleared = c .before .before .before .before in
     let counted = cleared .before .before in
-    ends (counted .before .before .rule .ensures) (c .enum-told .given .1) (ap answer (counted .set-rows .ensures)) (cleared .clear .ensures)
+    ends (counted .before .before .verdict-of .ensures) (c .enum-told .given .1) (ap answer (counted .set-rows .ensures)) (cleared .clear .ensures)
 
 pub finish-spec : {M : Type 1} → statement M
 finish-spec =
