@@ -35,7 +35,7 @@ const BATCH_RECORDS: usize = WAITING_RECORDS + RULE_RECORDS;
 pub(crate) const BATCH_NUMBERS: usize = RECORD_NUMBERS * BATCH_RECORDS;
 
 // How many records stand in the batch, and the set that was made.
-#[derive(Drop)]
+#[derive(Clone, Copy)]
 pub(crate) struct Made {
     pub(crate) count: usize,
     pub(crate) set: u64,

@@ -6,6 +6,8 @@
 // functions that the checker covers, and `table::store` copies them. The other files, in the order in
 // which a build comes to them: start.rt, filling.rt, node.rt, rule.rt, roots.rt, answer.rt. What they
 // share: state.rt; frame.rt and slot.rt for the lent work; triples.rt and splits.rt for the flags of a split.
+#![tactic(auto)]
+
 ghost use Rattle.building.specs.Driving.{Ready, Driven};
 ghost use Rattle.building.specs.Face.{Builds};
 

@@ -21,7 +21,7 @@ use table::EMPTY;
 // A branch rule at a node: the records in the table, the node, how many flags there are, the rule's own
 // flag, and where in work the shelves of its left state, its right state and the state that it names
 // start. The last is behind the other two, which stand in the frames below the node's.
-#[derive(Drop)]
+#[derive(Clone, Copy)]
 pub(crate) struct Branch {
     pub(crate) used: usize,
     pub(crate) node: usize,

@@ -22,7 +22,7 @@ use table::EMPTY;
 pub(crate) const LOOKUP_NUMBERS: usize = LIST_NUMBERS + NOTE_NUMBERS;
 
 // The building stands at its first node, or is refused with 1 to 5.
-#[derive(Drop)]
+#[derive(Clone, Copy)]
 pub(crate) enum Begun {
     Going(State),
     Refused(StreamRefusal),

@@ -12,7 +12,7 @@ ghost use Rattle.building.specs.States.{counted};
 // The last four fill one word, so that the struct has no gap: a gap is copied from stack to stack with
 // every turn (docs/PERFORMANCE.md). The work asked for is at most 4,096 frames of 256 numbers, and the
 // number of a set at most 60,389: they fit.
-#[derive(Drop)]
+#[derive(Clone, Copy)]
 pub(crate) struct State {
     pub(crate) from: usize,
     pub(crate) count: usize,

@@ -14,7 +14,7 @@ use table::{EMPTY, FIRST_RECORD, UNIT};
 
 // The set that a record becomes, and the record that is new if one is: `count` is 0 or 1. Where it is
 // 0, `new` is blank and goes nowhere.
-#[derive(Drop)]
+#[derive(Clone, Copy)]
 pub(crate) struct Image {
     pub(crate) set: u64,
     pub(crate) count: usize,

@@ -1,6 +1,8 @@
 // Fixing a place at a node: a new set in a second table. Two passes over the records of the first one:
 // what each becomes, and then the new records. Both go upwards: operands have lower numbers, and the
 // new records keep the old order.
+#![tactic(auto)]
+
 ghost use Rattle.fix.specs.Face.{Fixes};
 ghost use Rattle.fix.specs.Passes.{Ready, ImagesDone, MayRecord, RecordsDone};
 

@@ -6,7 +6,7 @@ ghost use Rattle.fix.specs.States.{stopped, passed};
 // `at` is the number of the next record, `used` how many the pass has, `made` how many the new table
 // has so far. The last turn made `count` of them, 0 or 1, which go into the table at `from`. The place
 // is fixed at the node. `twice` says that the pass has stopped at a union of unit and unit.
-#[derive(Drop)]
+#[derive(Clone, Copy)]
 pub(crate) struct State {
     pub(crate) at: usize,
     pub(crate) used: usize,

@@ -139,7 +139,9 @@ tree_from_next before r rs e = rw (e, ← append_snoc before r (tree_records rs)
 -- the tree's end is where the head stands
 tree_from_end : (before : List StreamRecord) (r : StreamRecord) (rs : List StreamRecord) → is_tree_kind r.kind ≡ false
     → tree_tests_from before (r ∷ rs) ≡ tests_at (behind 0 before) (tree_end_tests before ++ head_tests r) ++ query_tests_from (behind 0 before) (r ∷ []) rs
-tree_from_end before r rs e = rw (e, append-nil before) refl
+tree_from_end before r rs e =
+    rw e
+    (ap (λ (xs : List StreamRecord). tests_at (behind 0 xs) (tree_end_tests xs) ++ query_part (behind 0 xs) (r ∷ rs)) (append-nil before))
 
 whole_snoc : (later : List StreamRecord) (k : ℕ) (more : List ℕ) → ((r : StreamRecord) → r ∈ later → length r.body ≡ body_length r.kind)
     → body_length k ≤ length more → (r : StreamRecord) → r ∈ later ++ (first_record k more ∷ []) → length r.body ≡ body_length r.kind

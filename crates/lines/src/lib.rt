@@ -1,6 +1,8 @@
 // Text behind the first `at` bytes of a buffer: a byte, a number, a line of a word and a number, the line of a refusal. Both programs
 // write with these. Each function answers how many bytes there are then. A word, a number or a byte that has no room is left out whole,
 // so none asks for anything; who has the room knows that all stands there (proofs/Putting.antt).
+#![tactic(auto)]
+
 ghost use Rattle.std.specs.Prelude.{[], ◌∷◌, ◌≡◌};
 ghost use Rattle.paper.specs.Answers.{no_of_stream};
 ghost use Rattle.lines.specs.Put.{put, put_fact, put_refusal};

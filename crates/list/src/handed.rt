@@ -6,7 +6,7 @@ use libc::STDERR_FILENO;
 
 // How many bytes of the program's text were handed on, and whether a write failed. The fields are known in this file only: nothing
 // else can count a byte as handed on, or say that a write failed.
-#[derive(Drop)]
+#[derive(Clone, Copy)]
 pub(crate) struct Handed {
     bytes: u64,
     failed: bool,

@@ -1,6 +1,8 @@
 // The listing program: a stream on standard input, its rows on standard output. First the listing, row after row, then the buffers
 // that it needs, then all that is told of an input, and last what is read. Everything that thinks is called from elsewhere: `building`
 // makes the set, `sound` counts it, `row` gives each row, and this crate turns them into text (text.rt) and hands it on (handed.rt).
+#![tactic(auto)]
+
 ghost use Rattle.std.specs.Prelude.{◌≡◌, ◌≤◌, length};
 ghost use Rattle.list.specs.Bounds.{longest_input, longest_line, largest_text};
 ghost use Rattle.list.specs.Handing.{HandsOn};

@@ -18,7 +18,7 @@ const LONGEST_LINE: usize = MOST_PLACES * (1 + LONGEST_NUMBER) + 1;
 
 // `number` is the next row's, of so many rows with so many places. `handed` tells what was handed on, and the first `bytes` of the text
 // wait. `going` is that there is a row to tell and no write has failed.
-#[derive(Drop)]
+#[derive(Clone, Copy)]
 pub(crate) struct Page {
     pub(crate) number: u64,
     pub(crate) rows: u64,

@@ -1,5 +1,7 @@
 // Member: whether a set lists a row. One pass upwards over its records, as far as the root: operands
 // have lower numbers, so what they list is known when a record's turn comes.
+#![tactic(auto)]
+
 ghost use Rattle.member.specs.Face.{Members};
 ghost use Rattle.member.specs.Driving.{Ready, Driven};
 

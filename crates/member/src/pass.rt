@@ -12,7 +12,7 @@ use paper::limits::MOST_PLACES;
 // `at` is the record that comes next, `root` the last one. `row` is the row asked for, blank behind its
 // end: by value, so that a turn holds no second slice. `listed` is what the record last passed says: at
 // the end the root.
-#[derive(Drop)]
+#[derive(Clone, Copy)]
 pub(crate) struct State {
     pub(crate) at: usize,
     pub(crate) root: usize,

@@ -1,6 +1,8 @@
 // The plain types that document 01 speaks of: a record of the table, a set and its head, the two fixed names, the refusals, and
 // an answer for each call. The kinds of records and the limits have files of their own. What they mean stands in specs/, section
 // by section; specs/Answers.antt has the number of each refusal.
+#![tactic(auto)]
+
 ghost use Rattle.std.specs.Prelude.{◌≡◌};
 ghost use Rattle.paper.specs.Answers.{no_of_stream, number_of, says_position};
 ghost use Rattle.paper.specs.Refusals.{number_in, position_in};
@@ -11,7 +13,7 @@ pub mod limits;
 // One entry of the lent table: a single, a union or a product, by its kind. All zeros is the blank entry. Each number of document 01
 // fits 16 bits, so an entry has ten bytes and no padding, and a C compiler lays it out the same: hence `repr(C)`.
 #[repr(C)]
-#[derive(Drop)]
+#[derive(Clone, Copy)]
 pub struct Record {
     pub kind: u16,
     pub node: u16,
@@ -21,7 +23,7 @@ pub struct Record {
 }
 
 // What a head's set is. Empty lists no row and unit one row of blanks; neither is ever a record, nor an operand of one.
-#[derive(Drop)]
+#[derive(Clone, Copy)]
 pub enum Set {
     Empty,
     Unit,
@@ -30,7 +32,7 @@ pub enum Set {
 
 // Of a set: the nodes of its tree, its arity, its open places as a flag, how many entries of its table are used, and the set itself.
 // A head that a caller hands back may hold any numbers; the questions test them before all else and refuse what is not sound.
-#[derive(Drop)]
+#[derive(Clone, Copy)]
 pub struct Head {
     pub nodes: u16,
     pub arity: u16,
@@ -40,7 +42,7 @@ pub struct Head {
 }
 
 // Places as the bits of a number; place 1 is the lowest.
-#[derive(Drop)]
+#[derive(Clone, Copy)]
 pub struct Flag(pub u16);
 
 impl Flag {
@@ -48,7 +50,7 @@ impl Flag {
 }
 
 // What stands at a place of a row: a node, or the mark for a blank place. No node has this number, since a tree has at most 4,095.
-#[derive(Drop)]
+#[derive(Clone, Copy)]
 pub struct Place(pub u16);
 
 impl Place {
@@ -58,7 +60,7 @@ impl Place {
 // The numbers that say no, from 5 on, in the order of their table, each case named after its cause. It is one enum for all calls, which
 // a build has inside `StreamRefusal`, so that a number means the same wherever it is met; which call gives which, and which first, is
 // said in specs/Refusals.antt, and for the two calls of request 2026-01 in specs/Conversions.antt.
-#[derive(Drop)]
+#[derive(Clone, Copy)]
 pub enum Refusal {
     ShortWork,
     ShortTable,
@@ -98,7 +100,7 @@ impl Refusal {
 // What says no to a stream: 1 to 4, each with the byte position of what is at fault (request 2026-04), or one of the others. The
 // programs tell every refusal as one of these. It is a type of its own, so that what only has a number stays a byte: the questions carry
 // one from turn to turn.
-#[derive(Drop)]
+#[derive(Clone, Copy)]
 pub enum StreamRefusal {
     Tree(usize),
     ManyNodes(usize),
@@ -108,7 +110,7 @@ pub enum StreamRefusal {
 }
 
 // Where a refusal says that the input is at fault.
-#[derive(Drop)]
+#[derive(Clone, Copy)]
 pub enum Position {
     At(usize),
     None,
@@ -144,28 +146,28 @@ impl StreamRefusal {
 // The answers. Each call has an enum of its own, since the language has no generics; a case for each answer, and one for a refusal.
 
 // Build: the set stands in the table, and this is its head.
-#[derive(Drop)]
+#[derive(Clone, Copy)]
 pub enum Built {
     Set(Head),
     Refused(StreamRefusal),
 }
 
 // Count: how many rows are listed, at most 2 to the power of 48.
-#[derive(Drop)]
+#[derive(Clone, Copy)]
 pub enum Counted {
     Rows(u64),
     Refused(Refusal),
 }
 
 // Row by number: the row stands in the output, one entry a place.
-#[derive(Drop)]
+#[derive(Clone, Copy)]
 pub enum Written {
     Row,
     Refused(Refusal),
 }
 
 // Member: whether the row is listed.
-#[derive(Drop)]
+#[derive(Clone, Copy)]
 pub enum Member {
     Listed,
     NotListed,
@@ -173,21 +175,21 @@ pub enum Member {
 }
 
 // Project: the marks stand in the output, one byte a node.
-#[derive(Drop)]
+#[derive(Clone, Copy)]
 pub enum Projected {
     Marks,
     Refused(Refusal),
 }
 
 // Fix: the new set stands in the target, and this is its head.
-#[derive(Drop)]
+#[derive(Clone, Copy)]
 pub enum Fixed {
     Set(Head),
     Refused(Refusal),
 }
 
 // Text to tree, and tree to text: the result stands in the first so many bytes of the output.
-#[derive(Drop)]
+#[derive(Clone, Copy)]
 pub enum Converted {
     Bytes(usize),
     Refused(Refusal),

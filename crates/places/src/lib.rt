@@ -1,6 +1,8 @@
 // The places of a flag: how many there are, whether one of them is there, the flag without it, and
 // whether a place of a head is open. Place 1 has index 0 and the lowest bit.
 // No function asks for anything, so each answers for any number, also for one that no sound set has.
+#![tactic(auto)]
+
 ghost use Rattle.std.specs.Prelude.{◌≡◌};
 ghost use Rattle.std.specs.Int.Count.{ones};
 ghost use Rattle.paper.specs.Questions.{has_place, without};

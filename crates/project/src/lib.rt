@@ -2,6 +2,8 @@
 // downwards from the root marks the records under it, since not every used record is; the singles that
 // are met keep their nodes in the work. A record under the root lists some row, and each of its rows
 // is part of one of the root's: so what it has at the place stands there in some row of the set.
+#![tactic(auto)]
+
 ghost use Rattle.project.specs.Face.{Projects};
 ghost use Rattle.project.specs.Passing.{Ready, Driven};
 

@@ -6,7 +6,7 @@ pub(crate) const MARKED: u64 = 1;
 
 // `at` is the record that is looked at next, and `going` that there is one. The index of the place, from
 // 0, stays.
-#[derive(Drop)]
+#[derive(Clone, Copy)]
 pub(crate) struct State {
     pub(crate) at: usize,
     pub(crate) index: usize,

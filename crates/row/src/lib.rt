@@ -1,6 +1,8 @@
 // Row by number: for each open place a descent to the single that has its node, by the numbers of rows
 // that `weigh` has left in the work. The first begins at the root, the next ones below the unions that
 // all of them share. No descent needs a stack, and the work is only read.
+#![tactic(auto)]
+
 ghost use Rattle.row.specs.Descending.{Ready, Descended};
 ghost use Rattle.row.specs.Face.{Numbers};
 

@@ -4,7 +4,7 @@ use paper::limits::MOST_PLACES;
 // The node at the place with index `place` is that of row `number` of record `at`. `row` has the nodes
 // of the places before it, and is blank at the others. Row `listed` of record `start` is the row asked
 // for: the next descent begins there. The set's open places stay.
-#[derive(Drop)]
+#[derive(Clone, Copy)]
 pub(crate) struct State {
     pub(crate) at: usize,
     pub(crate) number: u64,

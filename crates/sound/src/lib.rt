@@ -2,6 +2,8 @@
 // records, with which every question begins. Then the first question, how many rows there are.
 // First these two and the loop over the table, then what the questions need besides: the rows of a
 // set, and the cleared work.
+#![tactic(auto)]
+
 ghost use Rattle.std.specs.Prelude.{◌≡◌, min, length, replicate};
 ghost use Rattle.paper.specs.Refusals.{over};
 ghost use Rattle.sound.specs.Counting.{rows_in_set};
@@ -28,7 +30,7 @@ pub use weight::{flag_in, rows_in};
 pub use verdict::{Ruling, Verdict, verdict_after, verdict_of};
 
 // What `weigh` found. Where the set is sound, the work has the weights of its used records.
-#[derive(Drop)]
+#[derive(Clone, Copy)]
 pub enum Weighed {
     Sound,
     Refused(Refusal),

@@ -4,7 +4,7 @@
 // Record `at` is tested next; those before it are sound, and their weights stand in the work.
 // `used`, `nodes` and `arity` are the head's, and stay. `sound` is that nothing has failed yet,
 // `going` that there is a record to test: of a set that uses none only the first holds.
-#[derive(Drop)]
+#[derive(Clone, Copy)]
 pub(crate) struct State {
     pub(crate) at: usize,
     pub(crate) used: usize,

@@ -9,14 +9,14 @@ use crate::Weighed;
 use paper::Refusal;
 
 // What the tests of a question come to: all hold, or the first that fails refuses.
-#[derive(Drop)]
+#[derive(Clone, Copy)]
 pub enum Ruling {
     Answer,
     Refused(Refusal),
 }
 
 // `clear` is how many numbers of the work are set to 0 at the end.
-#[derive(Drop)]
+#[derive(Clone, Copy)]
 pub struct Verdict {
     pub ruling: Ruling,
     pub clear: usize,

@@ -10,14 +10,14 @@ use paper::kinds::QUERY_HEAD;
 use paper::limits::{MOST_PLACES, MOST_STATES};
 
 // The query's arity and states, and where the records behind its head begin.
-#[derive(Drop)]
+#[derive(Clone, Copy)]
 pub struct QueryFacts {
     pub arity: usize,
     pub states: usize,
     pub rules: usize,
 }
 
-#[derive(Drop)]
+#[derive(Clone, Copy)]
 pub enum QueryRead {
     Query(QueryFacts),
     Refused(StreamRefusal),

@@ -2,6 +2,8 @@
 // 1 to 4, or with the numbers that a build goes on with (specs/Reading.antt). `list_rules`
 // lists the rules once, and the readers of the lists find them (specs/RuleLists.antt). What is answered for
 // one record in between stands in specs/OneRecord.antt.
+#![tactic(auto)]
+
 mod fits; // whether a record behind the query's head is whole and in range
 mod head; // the query's head
 mod keys; // what the query's records say once, as a table of bits

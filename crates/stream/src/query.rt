@@ -18,13 +18,13 @@ use paper::limits::MOST_RULES;
 
 // What the records behind the head up to a position make: so many rules. What they say is in a table
 // beside it.
-#[derive(Drop)]
+#[derive(Clone, Copy)]
 struct QueryState {
     at: usize,
     rules: usize,
 }
 
-#[derive(Drop)]
+#[derive(Clone, Copy)]
 enum QueryStep {
     Next(QueryState),
     Refused(StreamRefusal),

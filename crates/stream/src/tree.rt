@@ -11,14 +11,14 @@ use paper::limits::{HIGHEST_LABEL, MOST_NODES};
 
 // Where the tree ends, how many nodes it has, and the most subtrees ever unjoined, by which the
 // work of a build is measured.
-#[derive(Drop)]
+#[derive(Clone, Copy)]
 pub struct TreeFacts {
     pub end: usize,
     pub nodes: usize,
     pub most: usize,
 }
 
-#[derive(Drop)]
+#[derive(Clone, Copy)]
 pub enum TreeRead {
     Tree(TreeFacts),
     Refused(StreamRefusal),
@@ -26,7 +26,7 @@ pub enum TreeRead {
 
 // What the tree records up to a position make: nodes, subtrees unjoined, and the most of these so
 // far. How many there are is enough: which ones a branch joins decides no refusal.
-#[derive(Drop)]
+#[derive(Clone, Copy)]
 struct TreeState {
     at: usize,
     nodes: usize,
@@ -34,7 +34,7 @@ struct TreeState {
     most: usize,
 }
 
-#[derive(Drop)]
+#[derive(Clone, Copy)]
 enum TreeStep {
     Next(TreeState),
     Refused(StreamRefusal),

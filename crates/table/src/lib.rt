@@ -1,6 +1,8 @@
 // The lent table of records: the two functions that write it, what the second calls, and the set that a number is.
 // Those two hold a slice of structs and are proved by hand, with the laws of `walks`; so whatever can be done on
 // plain numbers is done by the others, which the borrow checker covers.
+#![tactic(auto)]
+
 ghost use Rattle.std.specs.Prelude.{◌≡◌, ◌+◌, ◌*◌, ◌<◌, length, replicate};
 ghost use Rattle.paper.specs.Records.{blank_entry};
 ghost use Rattle.table.specs.Batch.{record_numbers, record_at, fitted, stored};

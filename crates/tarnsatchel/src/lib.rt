@@ -1,6 +1,8 @@
 // The library for C: include/tarnsatchel.h says it in C. First the exported functions, each a straight line over the function of its
 // name; then the head's six numbers read and written; then each answer as a number. Nothing is decided here but how an answer looks
 // from C, so each contract is that of the function below it, told in numbers (specs/Told.antt).
+#![tactic(auto)]
+
 ghost use Rattle.std.specs.Prelude.{◌≡◌};
 ghost use Rattle.paper.specs.Answers.{no_of_stream, told, says_built, says_converted, says_counted, says_fixed, says_member, says_projected, says_written};
 ghost use Rattle.tarnsatchel.specs.Told.{set_kind, set_record, head_numbers, set_of, head_of, code, listed_number, position_or, Tells, TellsWhere};

@@ -28,7 +28,7 @@ const WITH_OTHERS: u8 = 2 * LABELS;
 const INSIDE: u8 = 3 * LABELS;
 
 // How many nodes wait, and where the text that is written starts.
-#[derive(Drop)]
+#[derive(Clone, Copy)]
 struct Writing {
     waiting: usize,
     start: usize,

@@ -1,4 +1,6 @@
 // Test trees as bracketed text, and back.
+#![tactic(auto)]
+
 ghost use Rattle.text.specs.Face.{MakesText, MakesTree};
 
 mod bytes;

@@ -18,7 +18,7 @@ pub(crate) const NO: usize = 0;
 // Beside it the pass is lent two buffers. The labels that wait for their branches stand at the end of the first, the last read before
 // the others, from `first` on; the image has so many `bytes` of the second by now. `may` is that a number stands just before, which
 // may have brackets. It is a number, as wide as the others: a gap behind it would be copied through memory with every byte of the text.
-#[derive(Drop)]
+#[derive(Clone, Copy)]
 pub(crate) struct Reading {
     pub(crate) mode: usize,
     pub(crate) depth: usize,

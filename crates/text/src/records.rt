@@ -12,7 +12,7 @@ use paper::limits::{HIGHEST_LABEL, PAD_LABEL};
 pub(crate) const OPEN: u8 = HIGHEST_LABEL + 1;
 
 // What is left of the labels that wait, and how many bytes the image has.
-#[derive(Drop)]
+#[derive(Clone, Copy)]
 pub(crate) struct Grown {
     pub(crate) first: usize,
     pub(crate) bytes: usize,

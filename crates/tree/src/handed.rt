@@ -7,7 +7,7 @@ use libc::STDERR_FILENO;
 // How many bytes were handed on, and whether a write failed. The fields are known in this file only: nothing else can count a byte as
 // handed on, or say that a write failed. `list` has its own: what may be handed on is each program's own text, and that is asked for by
 // a `requires`, which no public function of a library has.
-#[derive(Drop)]
+#[derive(Clone, Copy)]
 pub(crate) struct Handed {
     bytes: u64,
     failed: bool,

@@ -1,5 +1,7 @@
 // The tree program: a bracketed text on standard input, its tree records on standard output, or one line with a number. First what is
 // told of an input, then handing it on, and last what is read. `text` reads and writes the tree, and `lines` the line of a refusal.
+#![tactic(auto)]
+
 ghost use Rattle.std.specs.Prelude.{◌≡◌, length};
 ghost use Rattle.tree.specs.Handing.{HandsOn};
 ghost use Rattle.tree.specs.Telling.{longest_image, Stands};

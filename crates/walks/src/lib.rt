@@ -2,3 +2,4 @@
 // has the kit's names (Prelude), what walks are made of (Steps, Locals, Loops, Parameters, Contracts, Lending, Entries, Arrays, Values,
 // States), what a call is lent (Arguments) and a line of calls (Lines), a function that is such a line (Functions), a loop of such turns
 // (Turning), the reading of an entry (Reading), and a law for each shape of loop (Asking; Storing, for Building and Copying).
+#![tactic(auto)]
