@@ -4,11 +4,13 @@
 #![tactic(auto)]
 
 ghost use Rattle.std.specs.Prelude.{[], ◌∷◌, ◌≡◌};
+ghost use Rattle.io.specs.Counts.{IsPrefixLen};
 ghost use Rattle.paper.specs.Answers.{no_of_stream};
 ghost use Rattle.lines.specs.Put.{put, put_fact, put_refusal};
 ghost use Rattle.lines.specs.Text.{number_text};
 
 use paper::{Position, StreamRefusal};
+use std::io::Read;
 
 // The digits of a number below 2 to the power of 64, at most.
 pub const LONGEST_NUMBER: usize = 20;
@@ -75,4 +77,18 @@ pub fn put_refusal(text: &mut [u8], why: StreamRefusal) -> usize
         Position::At(at) => put_fact(&mut *text, number, &[b' ', b'a', b't', b' '], at as u64),
         Position::None => put_byte(&mut *text, number, b'\n'),
     }
+}
+
+// Reads until the buffer is full, the input ends or a read fails, and answers how many bytes stand at the buffer's start then.
+pub fn read_full<R: Read>(from: &mut R, buffer: &mut [u8]) -> usize
+    ensures { IsPrefixLen result buffer.new }
+{
+    let mut done = 0;
+    while done < buffer.len() {
+        match from.read(&mut buffer[done..]) {
+            Ok(0) | Err(_) => break,
+            Ok(n) => done += n,
+        }
+    }
+    done
 }

@@ -6,9 +6,8 @@ ghost use Rattle.std.specs.Prelude.{◌≡◌, length};
 ghost use Rattle.tree.specs.Handing.{HandsOn};
 ghost use Rattle.tree.specs.Telling.{longest_image, Stands};
 
-use crate::handed::{Handed, hand_on};
-use libc::{STDIN_FILENO, STDOUT_FILENO};
-use lines::put_refusal;
+use crate::handed::{Handed, STDOUT_FILENO, hand_on};
+use lines::{put_refusal, read_full};
 use paper::{Converted, Refusal, StreamRefusal};
 use text::LONGEST_IMAGE;
 
@@ -35,19 +34,19 @@ fn answer(input: &[u8], out: &mut [u8]) -> usize
 }
 
 // All that is told of an input, handed on in one write.
-fn tell(input: &[u8], out: &mut [u8]) -> Handed
+fn tell(rt: &HostRuntime, input: &[u8], out: &mut [u8]) -> Handed
     requires { length out.old ≡ longest_image }
     ensures { HandsOn input.now result }
 {
     let bytes = answer(input, &mut *out);
-    hand_on(STDOUT_FILENO, input, &mut out[..bytes])
+    hand_on(rt, STDOUT_FILENO, input, &mut out[..bytes])
 }
 
 // One byte more is read than the program takes, to see an input that is too long: `read_full` stops where the buffer is full or the
 // input ends. The output holds the records of any text, so refusal 10 is never told.
-fn main() {
+fn main(rt: HostRuntime) {
     let mut input = [0u8; LONGEST_INPUT + 1];
     let mut out = [0u8; LONGEST_IMAGE];
-    let n = io::read_full(STDIN_FILENO, &mut input);
-    tell(&input[..n], &mut out);
+    let n = read_full(&mut rt.stdin(), &mut input);
+    tell(&rt, &input[..n], &mut out);
 }
