@@ -118,7 +118,7 @@ falls_most : (c : Bool) (n : ℕ) → cond c n 0 ≤ n
 falls_most true n = omega arith
 falls_most false n = omega arith
 
-module _ (h : Head) (table : List Record) (s : Page) (work text input : List ℕ) (ready : Ready h table s work text input) where
+module _ (h : Head) (table : List Record) (s : Page) (work text : List ℕ) where
   pub record Before (x : Hand) : Type 0 where
     pub work_long : length x.work ≡ length work
     pub row_long : length x.row ≡ 4
@@ -128,7 +128,8 @@ module _ (h : Head) (table : List Record) (s : Page) (work text input : List ℕ
     pub goes : s.going ≡ true → x.page.handed.failed ≡ false → Going h table x.page x.text
     pub stuck : s.going ≡ true → x.page.handed.failed ≡ true → x.page.going ≡ false
 
-  pub starts : (row : List ℕ) → length row ≡ 4 → Before (record { page = s; work = work; row = row; text = text })
+module _ (h : Head) (table : List Record) (s : Page) (work text input : List ℕ) (ready : Ready h table s work text input) where
+  pub starts : (row : List ℕ) → length row ≡ 4 → Before h table s work text (record { page = s; work = work; row = row; text = text })
   starts row long = record {
     work_long = refl;
     row_long = long;
@@ -139,7 +140,7 @@ module _ (h : Head) (table : List Record) (s : Page) (work text input : List ℕ
     stuck = λ on failed. absurd (true≢false (sym failed ∙ (ready.goes on).1.fine));
   }
 
-  pub stops : (x : Hand) → Before x → x.page.going ≡ false → Rows h table s text x.page x.text
+  pub stops : (x : Hand) → Before h table s work text x → x.page.going ≡ false → Rows h table s text x.page x.text
   stops x B e = record {
     none = B.none;
     all = λ on fine.
@@ -149,7 +150,7 @@ module _ (h : Head) (table : List Record) (s : Page) (work text input : List ℕ
   }
 
   -- a turn
-  module _ (x : Hand) (B : Before x) (goes_on : x.page.going ≡ true) (r : Written) (w' o' : List ℕ)
+  module _ (x : Hand) (B : Before h table s work text x) (goes_on : x.page.going ≡ true) (r : Written) (w' o' : List ℕ)
       (N : Numbers h table x.work x.page.number x.row r w' o') where
     abbrev t : Page
     t = x.page
@@ -235,7 +236,7 @@ module _ (h : Head) (table : List Record) (s : Page) (work text input : List ℕ
       line_put = subst (λ (a : Reply (Unit {0})). Lines t a o' x.text t' m') said L
 
       -- what is needed behind the turn
-      before : t'.bytes ≤ length text → (t'.handed.failed ≡ false → Going h table t' m') → (t'.handed.failed ≡ true → t'.going ≡ false) → Before after
+      before : t'.bytes ≤ length text → (t'.handed.failed ≡ false → Going h table t' m') → (t'.handed.failed ≡ true → t'.going ≡ false) → Before h table s work text after
       before within goes stuck = record {
         work_long = w-long;
         row_long = o-long;
@@ -247,7 +248,7 @@ module _ (h : Head) (table : List Record) (s : Page) (work text input : List ℕ
       }
 
       -- handing on has failed: the page does not go on
-      stuck_onward : t'.handed.failed ≡ true → Before after × (falls after < falls x)
+      stuck_onward : t'.handed.failed ≡ true → Before h table s work text after × (falls after < falls x)
       stuck_onward failed =
           let off = line_put.fails failed in (
             before (omega (arith, off.1, m-long)) (λ still. absurd (true≢false (sym failed ∙ still))) (λ _. off.0),
@@ -316,7 +317,7 @@ module _ (h : Head) (table : List Record) (s : Page) (work text input : List ℕ
           tells = tells_more;
         }
 
-        put_onward : Before after × (falls after < falls x)
+        put_onward : Before h table s work text after × (falls after < falls x)
         put_onward = (
           before (omega (arith, fits, m-long)) (λ _. subst (λ (p : Page). Going h table p m') (sym put.1) goes_further)
               (λ failed. absurd (true≢false (sym failed ∙ still))),
@@ -332,5 +333,5 @@ module _ (h : Head) (table : List Record) (s : Page) (work text input : List ℕ
               )),
         )
 
-      pub onward : Before after × (falls after < falls x)
+      pub onward : Before h table s work text after × (falls after < falls x)
       onward = cases t'.handed.failed stuck_onward put_onward

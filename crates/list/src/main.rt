@@ -10,7 +10,7 @@ ghost use Rattle.list.specs.Listing.{head_of, Ready, Rows, Lists};
 
 use crate::handed::{Handed, has_failed};
 use crate::page::{Page, open_page, pass_on, put_line, refuse};
-use libc::STDIN_FILENO;
+use lines::read_full;
 use paper::limits::MOST_PLACES;
 use paper::{Built, Flag, Head, Record, Refusal, Set, StreamRefusal};
 
@@ -24,6 +24,9 @@ const LONGEST_INPUT: usize = 16384;
 const TABLE_ENTRIES: usize = 2000;
 
 const WORK_NUMBERS: usize = 16384;
+
+// The buffer in which the text waits.
+const LARGEST_TEXT: usize = 65536;
 
 // The built set, or one that lists nothing. A refused build has no head, but the walk below is a straight line that counts in either
 // case: the count of this one is refused, and the refusal of the build, which comes first, is what is told (`open_page`).
@@ -45,6 +48,7 @@ fn head_of(built: Built) -> Head
 // The rows that are still to be told, a line each. The loop ends since each turn tells one more of the rows that were counted, or
 // finds that a write has failed. Four entries are room for any row, since the arity of a sound set is at most 4.
 fn rows(
+    rt: &HostRuntime,
     head: Head,
     table: &[Record],
     s: Page,
@@ -60,14 +64,14 @@ fn rows(
     while t.going {
         let number = t.number;
         let written = row::row(head, table, &mut *work, number, &mut row);
-        t = put_line(t, written, &row, input, &mut *text);
+        t = put_line(rt, t, written, &row, input, &mut *text);
     }
     t
 }
 
 // What is told of an input; its last part waits in the text. A stream that asks for more than the table and the work have is refused 6 or 5. The
 // table is lent blank, but any table would do, since `build` says what it leaves.
-fn list(input: &[u8], text: &mut [u8]) -> Page
+fn list(rt: &HostRuntime, input: &[u8], text: &mut [u8]) -> Page
     requires { (length input.now ≤ longest_input) × (longest_line ≤ length text.old) × (length text.old ≤ largest_text) }
     ensures { Lists input.now result text.new }
 {
@@ -84,41 +88,41 @@ fn list(input: &[u8], text: &mut [u8]) -> Page
     let head = head_of(built);
     let counted = sound::count(head, &table, &mut work);
     let s = open_page(built, counted, &mut *text);
-    rows(head, &table, s, &mut work, &mut *text, input)
+    rows(rt, head, &table, s, &mut work, &mut *text, input)
 }
 
 // An input that is too long is refused 14, before any byte of it is looked at.
-fn answer(input: &[u8], text: &mut [u8]) -> Page
+fn answer(rt: &HostRuntime, input: &[u8], text: &mut [u8]) -> Page
     requires { (longest_line ≤ length text.old) × (length text.old ≤ largest_text) }
     ensures { Lists input.now result text.new }
 {
     if input.len() > LONGEST_INPUT {
         return refuse(StreamRefusal::Other(Refusal::LongInput), &mut *text);
     }
-    list(input, &mut *text)
+    list(rt, input, &mut *text)
 }
 
 // All that is told of an input, handed on. What waits when the last row is told is handed on here; not so where a write has failed
 // before, since the text would then go on behind a gap.
-fn tell(input: &[u8], text: &mut [u8]) -> Handed
+fn tell(rt: &HostRuntime, input: &[u8], text: &mut [u8]) -> Handed
     requires { (longest_line ≤ length text.old) × (length text.old ≤ largest_text) }
     ensures { HandsOn input.now result }
 {
-    let page = answer(input, &mut *text);
+    let page = answer(rt, input, &mut *text);
     let handed = page.handed;
     if has_failed(handed) {
         return handed;
     }
-    let last = pass_on(input, page, &mut *text);
+    let last = pass_on(rt, input, page, &mut *text);
     last.handed
 }
 
 // One byte more is read than the program takes, to see an input that is too long: `read_full` stops where the buffer is full or the
 // input ends. The text's buffer is large so that a write of the system, which costs far more than a line, is made for hundreds of
 // lines at once.
-fn main() {
+fn main(rt: HostRuntime) {
     let mut input = [0u8; LONGEST_INPUT + 1];
-    let mut text = io::large_buffer();
-    let n = io::read_full(STDIN_FILENO, &mut input);
-    tell(&input[..n], &mut text);
+    let mut text = [0u8; LARGEST_TEXT];
+    let n = read_full(&mut rt.stdin(), &mut input);
+    tell(&rt, &input[..n], &mut text);
 }

@@ -5,9 +5,8 @@ ghost use Rattle.paper.specs.Answers.{no_of_stream, says_built, says_counted, sa
 ghost use Rattle.list.specs.Bounds.{longest_opening, largest_text};
 ghost use Rattle.list.specs.Page.{Facts, Refuses, Opens, Waits, passed_on, MakesRoom, LineReady, Lines};
 
-use crate::handed::{Handed, hand_on, has_failed, nothing};
+use crate::handed::{Handed, STDOUT_FILENO, hand_on, has_failed, nothing};
 use crate::text::put_row;
-use libc::STDOUT_FILENO;
 use lines::{LONGEST_NUMBER, put_fact, put_refusal};
 use paper::limits::MOST_PLACES;
 use paper::{Built, Counted, Head, StreamRefusal, Written};
@@ -85,13 +84,13 @@ pub(crate) fn open_page(built: Built, counted: Counted, text: &mut [u8]) -> Page
 }
 
 // What waits is handed on, and nothing waits. It is asked for only where no write has failed, so the text goes on without a gap.
-pub(crate) fn pass_on(input: &[u8], t: Page, text: &mut [u8]) -> Page
+pub(crate) fn pass_on(rt: &HostRuntime, input: &[u8], t: Page, text: &mut [u8]) -> Page
     requires { Waits input.now t text.old }
     ensures { result ≡ passed_on t result.handed.failed }
 {
     let bytes = t.bytes;
     let before = t.handed;
-    let handed = hand_on(STDOUT_FILENO, input, before, &mut text[..bytes]);
+    let handed = hand_on(rt, STDOUT_FILENO, input, before, &mut text[..bytes]);
     let mut next = t;
     next.handed = handed;
     next.bytes = 0;
@@ -99,19 +98,20 @@ pub(crate) fn pass_on(input: &[u8], t: Page, text: &mut [u8]) -> Page
 }
 
 // What waits is handed on, if a line might not fit behind it. With room for the longest line any line fits, so it is never measured first.
-fn make_room(input: &[u8], t: Page, text: &mut [u8]) -> Page
+fn make_room(rt: &HostRuntime, input: &[u8], t: Page, text: &mut [u8]) -> Page
     requires { Waits input.now t text.old }
     ensures { MakesRoom t text.old result text.new }
 {
     if text.len() - t.bytes >= LONGEST_LINE {
         return t;
     }
-    pass_on(input, t, &mut *text)
+    pass_on(rt, input, t, &mut *text)
 }
 
 // The line of the next row, which stands in `row` if it was written there. Where handing on fails nothing more is to come. A row that
 // was counted is always written (list/proofs/Telling), so the case of a refusal is only there to have an answer for it: it stops.
 pub(crate) fn put_line(
+    rt: &HostRuntime,
     t: Page,
     written: Written,
     row: &[u16],
@@ -127,7 +127,7 @@ pub(crate) fn put_line(
             next.going = false;
         }
         Written::Row => {
-            next = make_room(input, t, &mut *text);
+            next = make_room(rt, input, t, &mut *text);
             let handed = next.handed;
             if has_failed(handed) {
                 next.going = false;
