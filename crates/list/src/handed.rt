@@ -2,6 +2,8 @@
 ghost use Rattle.std.specs.Prelude.{◌≡◌, ◌+◌, length};
 ghost use Rattle.list.specs.Handing.{Due, nothing_handed};
 
+use std::io::ErrorKind;
+
 // The number of standard output. Any other descriptor would be standard error here, and none is ever asked for.
 pub(crate) const STDOUT_FILENO: i32 = 1;
 
@@ -32,7 +34,7 @@ pub(crate) fn has_failed(handed: Handed) -> bool
 
 // Hands the next bytes of what the program tells of the input to standard output. The input is not read: the contract needs it, to say
 // whose text it is. The bytes are lent with `mut` and nothing is said of them afterwards, so that they are used up: to hand them on
-// twice a caller would have to put them anew. A write that fails is told in a line on standard error.
+// twice a caller would have to put them anew. A write that fails is told in a line on standard error, unless the reader went away.
 pub(crate) fn hand_on(
     rt: &HostRuntime,
     descriptor: i32,
@@ -47,12 +49,17 @@ pub(crate) fn hand_on(
         STDOUT_FILENO => rt.stdout().write_all(&*bytes),
         _ => rt.stderr().write_all(&*bytes),
     };
-    let failed = written.is_err();
-    if failed {
-        let _ = rt
-            .stderr()
-            .write_all(b"list: the text could not be written\n");
-    }
+    let failed = match written {
+        Ok(()) => false,
+        Err(why) => {
+            if why.kind() != ErrorKind::BrokenPipe {
+                let _ = rt
+                    .stderr()
+                    .write_all(b"list: the text could not be written\n");
+            }
+            true
+        }
+    };
     Handed {
         bytes: handed.bytes + bytes.len() as u64,
         failed,
