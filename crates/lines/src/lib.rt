@@ -1,9 +1,10 @@
 // Text behind the first `at` bytes of a buffer: a byte, a number, a line of a word and a number, the line of a refusal. Both programs
 // write with these. Each function answers how many bytes there are then. A word, a number or a byte that has no room is left out whole,
-// so none asks for anything; who has the room knows that all stands there (proofs/Putting.antt).
+// so none asks for anything; who has the room knows that all stands there (proofs/Putting.antt). Last, how both programs read.
 #![tactic(auto)]
 
-ghost use Rattle.std.specs.Prelude.{[], ◌∷◌, ◌≡◌};
+ghost use Rattle.std.specs.Prelude.{[], ◌∷◌, ◌≡◌, take};
+ghost use Rattle.std.specs.Io.KnownBytes.{Consumes};
 ghost use Rattle.io.specs.Counts.{IsPrefixLen};
 ghost use Rattle.paper.specs.Answers.{no_of_stream};
 ghost use Rattle.lines.specs.Put.{put, put_fact, put_refusal};
@@ -79,9 +80,11 @@ pub fn put_refusal(text: &mut [u8], why: StreamRefusal) -> usize
     }
 }
 
-// Reads until the buffer is full, the input ends or a read fails, and answers how many bytes stand at the buffer's start then.
+// Reads until the buffer is full, the input ends or a read fails, and answers how many bytes stand at the buffer's start then: those
+// that the reader has given, if it is known what it gives.
 pub fn read_full<R: Read>(from: &mut R, buffer: &mut [u8]) -> usize
-    ensures { IsPrefixLen result buffer.new }
+    ensures in_bounds { IsPrefixLen result buffer.new }
+    ensures bytes { Consumes (R.remaining from.old) (R.remaining from.new) (take result buffer.new) }
 {
     let mut done = 0;
     while done < buffer.len() {
