@@ -6,6 +6,7 @@ pub mod RowCounts
 pub mod WeightParts
 pub mod Testing
 pub mod OneMore
+pub mod Driving
 pub mod Cells
 pub mod Facing
 pub mod Answered

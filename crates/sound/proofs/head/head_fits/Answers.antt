@@ -1,5 +1,5 @@
 -- `head_fits`: each `return` by the tests that led there. 1 shifted by the arity is 2 to its power.
-use Rattle.std.proofs.Common.{◌∙◌, ◌≡◌, ◌%◌, ◌*◌, ◌<◌, ◌≤◌, ℕ, Bool, true, List, [], ◌∷◌, sym, arith}
+use Rattle.std.proofs.Common.{◌∙◌, ◌≡◌, ◌%◌, ◌*◌, ◌<◌, ◌≤◌, ℕ, Bool, true, [], ◌∷◌, sym, arith}
 use Prim.Native.Nat.{◌^◌}
 use mathlib.Core.Bool.{and-false, and-true}
 use borrow.Author.Tests.{le-leb, le-ltb, lt-leb, lt-ltb}

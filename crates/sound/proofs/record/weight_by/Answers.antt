@@ -35,4 +35,4 @@ pub returns-in_default : goal.returns-in_default
 returns-in_default c =
     let a = c.args in
     ap (weight_for a.r.flag)
-    (by_none a.r a.at a.work.now c.if-left-at.false c.if-right-at.false c.if-kind-eq-SINGLE.false ? ?)
+    (by_none a.r a.at a.work.now c.if-left-at.false c.if-right-at.false c.if-kind-eq-SINGLE.false (λ w. omega arith) (λ w. omega arith))
