@@ -23,7 +23,7 @@ pub returns-then-top-gt0 : goal.returns-then-top-gt0
 returns-then-top-gt0 c =
     let low : get_or c.args.waiting.now (c.loop-top.top - 1) 0 < 192 =
     elim c.loop-top-test.branch [
-      then-loop-top-test+else-waiting-top-ge-INSIDE w ↦ w.if-waiting-top-ge-INSIDE.false
-    | else-loop-top-test w ↦ absurd (omega arith)
+      | then-loop-top-test+else-waiting-top-ge-INSIDE w ↦ w.if-waiting-top-ge-INSIDE.false
+      | else-loop-top-test w ↦ absurd (omega arith)
     ] in
     other_ends c.loop-top.invariant c.if-top-gt0.true low (omega (arith, c.loop-top.invariant.no_more, c.requires.few, c.requires.long))

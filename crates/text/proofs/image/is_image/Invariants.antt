@@ -9,7 +9,7 @@ invariant-loop-at l = record {
   inside : l.at ≤ length l.tree;
   few_trees : l.trees ≤ l.at;
   few_nodes : l.nodes ≤ l.at;
-  judged : image_judged (so_far l.trees l.nodes l.pad l.single) (drop l.at l.tree) ≡ image_judged nothing_read l.tree
+  judged : image_judged (so_far l.trees l.nodes l.pad l.single) (drop l.at l.tree) ≡ image_judged nothing_read l.tree;
 }
 
 abbrev pub decreases-loop-at : goal.decreases-loop-at

@@ -19,7 +19,7 @@ pub returns : goal.returns
 returns c =
     let over : (length c.args.text.now ≤ c.loop-at.at) ⊎ (c.loop-at.s.mode ≡ 65) =
     elim c.loop-at-test.branch [
-      then-loop-at-test+else-s-ne-REFUSED w ↦ inr w.if-s-ne-REFUSED.false
-    | else-loop-at-test w ↦ inl w.loop-at-test.false
+      | then-loop-at-test+else-s-ne-REFUSED w ↦ inr w.if-s-ne-REFUSED.false
+      | else-loop-at-test w ↦ inl w.loop-at-test.false
     ] in
     text_ends _ _ _ _ _ c.loop-at.invariant over _ _ _ c.end_number.ensures
