@@ -1,6 +1,9 @@
 -- `drive`: a turn asks for no more than holds before it, keeps that, and comes nearer to the end (`Driving`).
-use Rattle.row.proofs.Driving.{nearer, onward, readable, stops}
+use Rattle.row.proofs.Driving.{in_table, nearer, onward, readable, stops}
 use Rattle.row.proofs.drive.Goals as goal
+
+pub bounds-table-k : goal.bounds-table-k
+bounds-table-k c = in_table c.loop-t-test.true c.loop-t.invariant
 
 pub next-t-requires : goal.next-t-requires
 next-t-requires c = readable c.loop-t-test.true c.loop-t.invariant
