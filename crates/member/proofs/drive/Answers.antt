@@ -1,7 +1,10 @@
 -- `drive`: a turn asks for no more than holds before it, keeps that, and comes nearer to the end (`Driving`).
 use Rattle.std.proofs.Common.{◌<◌, arith, length}
-use Rattle.member.proofs.Driving.{in_table, nearer, onward, reads, stops}
+use Rattle.member.proofs.Driving.{in_table, nearer, onward, reads, starts, stops}
 use Rattle.member.proofs.drive.Goals as goal
+
+pub loop-t-init : goal.loop-t-init
+loop-t-init c = starts c.args.table.now c.args.s c.args.work.now c.requires
 
 pub offset_bounds-table-k : goal.offset_bounds-table-k
 offset_bounds-table-k c =
