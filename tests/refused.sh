@@ -18,7 +18,7 @@ if [ -z "$said" ]; then
 fi
 [ -r "$said" ] || exit 2
 
-# The function that a line of a source file is in, as the checker names it.
+# The function that a line of a source file is in, as the checker names it. One begins with its attributes.
 function_at() { # CRATE FILE LINE
     local module=${2%.rt}
     case $module in
@@ -26,12 +26,14 @@ function_at() { # CRATE FILE LINE
     esac
     module=${module//\//::}
     awk -v line="$3" -v path="$1::${module:+$module::}" '
-        NR > line { exit }
+        NR > line && !ahead { exit }
+        NR == line && /^ *#\[/ { ahead = 1 }
         /^}/ { type = "" }
         /^impl/ { type = $0; sub(/^impl(<[^>]*>)? */, "", type); sub(/.* for /, "", type); sub(/[ <{].*/, "", type); type = type "::" }
         /^ *((pub|pub\([a-z]+\)|const|unsafe|extern "C") )*fn / {
             name = $0; sub(/^ *((pub|pub\([a-z]+\)|const|unsafe|extern "C") )*fn /, "", name); sub(/[^A-Za-z0-9_].*/, "", name)
             within = type name
+            if (ahead) exit
         }
         END { print path within }' "crates/$1/src/$2"
 }
