@@ -35,6 +35,5 @@ pub mod Beginning
 pub mod Finishing
 pub mod Storing
 pub mod Facing
-pub mod StateShape
 pub mod BuildRight
 pub mod OneAnswer
