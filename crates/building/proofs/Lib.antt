@@ -34,6 +34,7 @@ pub mod TurnLoop
 pub mod Beginning
 pub mod Finishing
 pub mod Storing
+pub mod DriveLoop
 pub mod Facing
 pub mod BuildRight
 pub mod OneAnswer
