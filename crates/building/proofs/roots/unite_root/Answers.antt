@@ -1,5 +1,5 @@
 -- `roots::unite_root` unites the slot of one more state, if that is accepting.
-use Rattle.std.proofs.Common.{◌<◌, ℕ, List, arith}
+use Rattle.std.proofs.Common.{◌<◌, ℕ, List, ap, arith, not}
 use Rattle.building.specs.Bounds.{most_states}
 use Rattle.building.specs.Roots.{StandsListed}
 use Rattle.building.specs.Standing.{State}
@@ -19,7 +19,7 @@ returns-then-not-accepts c =
     let a = c.args in
     let r = c.requires in
     next_skipped a.t a.lists.now a.work.now a.state a.made r.count_le_count.0 r.count_le_count.1 r.count_le_count.2 a.batch.now
-    (small _ _ _ _ r.stands_listed.0 r.state_lt_states.0) c.accepts.result c.accepts.ensures.0 c.if-not-accepts.true
+    (small _ _ _ _ r.stands_listed.0 r.state_lt_states.0) c.accepts.result c.accepts.ensures.0 (ap not c.if-not-accepts.true)
 
 pub flags-places-requires : goal.flags-places-requires
 flags-places-requires c = omega (arith, ready _ _ _ _ c.requires.stands_listed.0 c.requires.state_lt_states.0)
@@ -60,5 +60,5 @@ returns c =
     let a = c.args in
     let r = c.requires in
     next_united a.t a.lists.now a.work.now a.state a.made r.count_le_count.0 r.count_le_count.1 r.count_le_count.2 a.batch.now
-    (small _ _ _ _ r.stands_listed.0 r.state_lt_states.0) c.accepts.result c.accepts.ensures.0 c.if-not-accepts.false r.state_lt_states.0
+    (small _ _ _ _ r.stands_listed.0 r.state_lt_states.0) c.accepts.result c.accepts.ensures.0 (ap not c.if-not-accepts.false) r.state_lt_states.0
     c.shelf_at.ensures c.flags-places.ensures c.union.ensures

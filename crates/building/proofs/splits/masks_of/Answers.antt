@@ -1,5 +1,6 @@
 -- A turn marks the right flag in one of the two masks: it shares no bit where its triple is at hand, and shares one where it is not.
-use Rattle.std.proofs.Common.{◌≡◌, ◌∙◌, ℕ, List, ◌+◌, ◌*◌, ◌<◌, ◌≤◌, ap, arith, subst₃, sym}
+use Rattle.std.proofs.Common.{◌≡◌, ◌∙◌, ℕ, List, ◌+◌, ◌*◌, ◌<◌, ◌≤◌, ap, arith, sym}
+use mathlib.Core.Path.{subst₃}
 use lib.Bits.{bit_or}
 use lib.Pow.{shl_exact}
 use Rattle.building.specs.Bounds.{most_flags}
