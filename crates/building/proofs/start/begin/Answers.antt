@@ -11,5 +11,5 @@ returns-in-Refused c =
 
 pub returns-in-Refused-read_query : goal.returns-in-Refused-read_query
 returns-in-Refused-read_query c =
-    let (refuses, few) = query_refused_at c.args.input.now _ c.args.entries c.in-Tree.ensures c.in-Refused.ensures in
+    let (refuses, few) = query_refused_at c.args.input.now _ c.args.entries c.in-Tree.ensures c.in-Refused-read_query.ensures in
     (refuses, few, refl)
