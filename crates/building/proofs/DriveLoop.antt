@@ -8,7 +8,6 @@ use native.Mathlib.Omega.{arith}
 use lib.ListN.{length, drop}
 use Rattle.paper.specs.Refusals.{over}
 use Rattle.table.specs.Batch.{stored}
-use Rattle.building.specs.Bounds.{batch_numbers}
 use Rattle.building.specs.Batch.{Record, records_in}
 use Rattle.building.specs.Standing.{State, Standing, Stopped, Stepped, Fills}
 use Rattle.building.specs.Driving.{Ready, Driven}

@@ -74,7 +74,7 @@ pub returns : goal.returns
 returns c base f =
     ran_ends _ _ _ _ base f c.requires.batch_numbers_in_bounds.1 (c.loop-rule.invariant base f) c.requires.rule_in_bounds.0
     (elim c.loop-rule-test.branch [
-      then-loop-rule-test+else-count-le-WAITING_RECORDS w ↦ inl w.if-count-le-WAITING_RECORDS.false
-    | else-loop-rule-test w ↦ inr w.loop-rule-test.false
+      | then-loop-rule-test+else-count-le-WAITING_RECORDS w ↦ inl w.if-count-le-WAITING_RECORDS.false
+      | else-loop-rule-test w ↦ inr w.loop-rule-test.false
     ])
     c.count_records.ensures

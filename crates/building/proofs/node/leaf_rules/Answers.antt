@@ -86,10 +86,10 @@ loop-rule-smaller c =
     let f = c.requires.filling.0.1 in
     let r = c.loop-rule.invariant _ f in
     elim c.if-can_stand.branch [
-      then-can_stand w ↦
+      | then-can_stand w ↦
           (onward r c.loop-rule-test.true c.requires.rule_in_bounds.1 f c.requires.filling.1 c.rule_after-rule.ensures c.can_stand.ensures
           w.if-can_stand.true w.leaf_rule-count.auto.work w.shelf_at-to.ensures w.leaf_rule-count.ensures).fewer
-    | else-can_stand w ↦
+      | else-can_stand w ↦
           (passed r c.loop-rule-test.true c.requires.rule_in_bounds.1 f c.requires.filling.1 c.rule_after-rule.ensures c.can_stand.ensures
           w.if-can_stand.false).fewer
     ]
@@ -102,11 +102,11 @@ loop-rule-preserved c base f =
     let next = λ (count : ℕ) (work batch : List ℕ). Onward a.input.now (more a.t l.count l.rule) l.work base count c.rule_after-rule.result work batch in
     ran_onward _ _ _ _ base f c.requires.batch_numbers_in_bounds.1 r c.if-count-le-WAITING_RECORDS.true
     (elim c.if-can_stand.branch [
-      then-can_stand w ↦
+      | then-can_stand w ↦
           subst₃ next (sym w.count-is) (sym w.work-is) (sym w.batch-is)
           (onward r c.loop-rule-test.true c.requires.rule_in_bounds.1 f c.requires.filling.1 c.rule_after-rule.ensures c.can_stand.ensures
           w.if-can_stand.true w.leaf_rule-count.auto.work w.shelf_at-to.ensures w.leaf_rule-count.ensures)
-    | else-can_stand w ↦
+      | else-can_stand w ↦
           subst₃ next (sym w.count-is) (sym w.work-is) (sym w.batch-is)
           (passed r c.loop-rule-test.true c.requires.rule_in_bounds.1 f c.requires.filling.1 c.rule_after-rule.ensures c.can_stand.ensures
           w.if-can_stand.false)
@@ -116,7 +116,7 @@ pub returns : goal.returns
 returns c base f =
     ran_ends _ _ _ _ base f c.requires.batch_numbers_in_bounds.1 (c.loop-rule.invariant base f) c.requires.rule_in_bounds.0
     (elim c.loop-rule-test.branch [
-      then-loop-rule-test+else-count-le-WAITING_RECORDS w ↦ inl w.if-count-le-WAITING_RECORDS.false
-    | else-loop-rule-test w ↦ inr w.loop-rule-test.false
+      | then-loop-rule-test+else-count-le-WAITING_RECORDS w ↦ inl w.if-count-le-WAITING_RECORDS.false
+      | else-loop-rule-test w ↦ inr w.loop-rule-test.false
     ])
     c.count_records.ensures

@@ -7,7 +7,7 @@ use Rattle.building.specs.Slots.{marks_at}
 use Rattle.building.specs.Splits.{Free, Noted}
 use Rattle.building.proofs.Marks.{first_mark}
 use Rattle.building.proofs.Running.{skipped_left}
-use Rattle.building.proofs.Turns.{RightLoop, RightTurn, right_apart, right_ends, right_onward, right_starts, right_turn, size_small}
+use Rattle.building.proofs.Turns.{right_apart, right_ends, right_onward, right_starts, right_turn, size_small}
 use Rattle.building.proofs.Turns.{split_room, sum_flag, with_empty, with_split}
 use Rattle.building.proofs.rule.beside.Goals as goal
 use Rattle.building.proofs.rule.beside.Goals.{then-there-ne-EMPTY, else-there-ne-EMPTY}
@@ -68,13 +68,13 @@ loop-marks-preserved c =
     let apart = right_apart r h e free l.invariant some in
     let next : Next a.rule a.k a.batch.now a.work.now a.b1 l.marks c.if-there-ne-EMPTY.batch c.if-there-ne-EMPTY.work c.if-there-ne-EMPTY.count =
     elim c.if-there-ne-EMPTY.branch [
-      then-there-ne-EMPTY w ↦
+      | then-there-ne-EMPTY w ↦
           subst₃ (Next a.rule a.k a.batch.now a.work.now a.b1 l.marks) (sym w.batch-is) (sym w.work-is) (sym w.count-is) (
             w.split-count.auto.batch ∙ s.batch_kept,
             w.split-count.auto.work ∙ s.work_kept,
             with_split s apart c.if-here-eq-EMPTY.false w.if-there-ne-EMPTY.true _ _ _ w.split-count.ensures,
           )
-    | else-there-ne-EMPTY w ↦
+      | else-there-ne-EMPTY w ↦
           subst₃ (Next a.rule a.k a.batch.now a.work.now a.b1 l.marks) (sym w.batch-is) (sym w.work-is) (sym w.count-is)
           (s.batch_kept, s.work_kept, with_empty s apart w.if-there-ne-EMPTY.false)
     ] in

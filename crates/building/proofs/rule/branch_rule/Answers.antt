@@ -1,5 +1,5 @@
 -- A rule with no mark on the right makes nothing. A turn takes the first left flag that is marked and left, and does the splits beside it.
-use Rattle.std.proofs.Common.{ℕ, ◌∙◌, arith}
+use Rattle.std.proofs.Common.{◌∙◌, arith}
 use Rattle.building.proofs.Turns.{beside_few, beside_room, left_apart_first, left_ends, left_onward, left_starts}
 use Rattle.building.proofs.Turns.{left_turn, right_none, size_small, with_left}
 use Rattle.building.proofs.rule.branch_rule.Goals as goal

@@ -1,5 +1,5 @@
 -- A turn marks the right flag in one of the two masks: it shares no bit where its triple is at hand, and shares one where it is not.
-use Rattle.std.proofs.Common.{◌≡◌, ◌∙◌, ℕ, List, ◌+◌, ◌*◌, ◌<◌, ◌≤◌, ap, arith, sym}
+use Rattle.std.proofs.Common.{◌≡◌, ◌∙◌, ℕ, ◌+◌, ◌*◌, ◌<◌, ap, arith, sym}
 use mathlib.Core.Path.{subst₃}
 use lib.Bits.{bit_or}
 use lib.Pow.{shl_exact}
@@ -33,10 +33,10 @@ loop-b-preserved c =
     record {
       within = omega arith;
       masking = elim c.if-triples-i.branch [
-        then-triples-i w ↦
+        | then-triples-i w ↦
             subst₃ (Masking a.flag (l.b + 1)) (sym (w.free-is ∙ ap (bit_or l.free) bit)) (sym w.shared-is) (sym w.i-is)
             (masking_apart m (shown a.flag l.b t inside a.triples.now whole l.i i_inside (w.if-triples-i.true ∙ number)))
-      | else-triples-i w ↦
+        | else-triples-i w ↦
             subst₃ (Masking a.flag (l.b + 1)) (sym w.free-is) (sym (w.shared-is ∙ ap (bit_or l.shared) bit)) (sym w.i-is)
             (masking_shared m (not_shown a.flag l.b t inside a.triples.now whole l.i m.place (λ e. w.if-triples-i.false (e ∙ sym number))))
       ];

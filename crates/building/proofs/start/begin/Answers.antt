@@ -1,6 +1,5 @@
 -- `start::begin` reads the tree, then the query, and starts.
-use Rattle.std.proofs.Common.{ap, refl, sym, ◌∙◌}
-use Rattle.stream.specs.Reading.{says_query, says_tree}
+use Rattle.std.proofs.Common.{refl}
 use Rattle.building.proofs.Beginning.{query_refused_at, tree_refused}
 use Rattle.building.proofs.start.begin.Goals as goal
 

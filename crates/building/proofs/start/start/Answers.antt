@@ -1,6 +1,5 @@
 -- `start::start` refuses work that is too short, or lists the rules and comes to the first node.
-use Rattle.std.proofs.Common.{arith, refl, length, length-drop, length-take}
-use Rattle.building.specs.Standing.{State}
+use Rattle.std.proofs.Common.{arith, refl, length-drop, length-take}
 use Rattle.building.proofs.Beginning.{asked_fits, asked_is, comes_first, first_started, lookup_listed, read_facts, rules_listed, short_work, small}
 use Rattle.building.proofs.Turns.{size_small}
 use Rattle.building.proofs.start.start.Goals as goal
