@@ -10,31 +10,30 @@ endif
 # For those who make packages: DESTDIR stands before every path that is written to, and in no file.
 to = $(DESTDIR)$(PREFIX)
 # What is installed. Another file that is named here is taken as it is.
-ARCHIVE = target/staticlib/libtarnsatchel.a
-PROGRAM = target/bin/list
-TREE = target/bin/tree
+ARCHIVE = crates/tarnsatchel/out/libtarnsatchel.a
+PROGRAM = crates/list/out/list
+TREE = crates/tree/out/tree
 # The version stands where cargo wants it, and in no second place by hand.
 VERSION := $(shell sed -n 's/^version = "\(.*\)"$$/\1/p' bindings/rust/Cargo.toml)
 
 all: $(ARCHIVE) $(PROGRAM) $(TREE)
 
-# Folders are among the sources: a file that is taken away makes its folder newer.
-SOURCES := crates.txt $(shell find crates)
-# All of them prove the same crates, into the same files of target/.
+# Folders are among the sources: a file that is taken away makes its folder newer. No crate's own folder is, and no out/: rt writes there.
+SOURCES := crates.txt $(shell find crates -regex 'crates/[^/]*/out' -prune -o ! -regex 'crates/[^/]*' -print)
+# All of them prove the same crates, into the same folders out/.
 .NOTPARALLEL:
 
 # What is built is dated from before the proof, so that a source changed meanwhile is newer; and dated anew where rt found that a
 # newer source says the same, and wrote nothing.
-target/staticlib/libtarnsatchel.a: $(SOURCES)
+crates/tarnsatchel/out/libtarnsatchel.a: $(SOURCES)
 	mkdir -p target && touch target/begun
-	rt staticlib tarnsatchel
+	cd crates/tarnsatchel && rt lib
 	touch -r target/begun $@
 
-# rt does not build a program again that it has proved, even where the program is gone.
-target/bin/list target/bin/tree: target/bin/%: $(SOURCES)
+# rt builds a program to run it: it is run on no input, and what it then prints is nobody's.
+crates/list/out/list crates/tree/out/tree: $(SOURCES)
 	mkdir -p target && touch target/begun
-	[ -x $@ ] || rm -f target/stamp/$*
-	rt check $*
+	cd crates/$(@F) && rt run </dev/null >/dev/null
 	touch -r target/begun $@
 
 check:
@@ -56,8 +55,8 @@ uninstall:
 	rm -f '$(to)/bin/tarnsatchel-list' '$(to)/bin/tarnsatchel-tree' '$(to)/include/tarnsatchel.h' \
 		'$(to)/include/tarnsatchel.f90' '$(to)/lib/libtarnsatchel.a' '$(to)/lib/pkgconfig/tarnsatchel.pc'
 
-# All proofs go with it.
+# All that rt has kept goes with it.
 clean:
-	rm -rf target
+	rm -rf target crates/*/out
 
 .PHONY: all check install uninstall clean

@@ -97,23 +97,24 @@ rust_program() {
     rustc -O --edition 2021 --crate-name "$name" "$file" -o "$out/$name" "$@" || give_up "$name does not compile"
 }
 
-# Sets `archive`: TARN_ARCHIVE if that is set, else that of crate `tarnsatchel`, proved first if anything under crates/ is newer. make
-# is asked, since `rt staticlib` proves the crate each time.
+# made FILE LOG: has make bring up to date what is built, proved first if anything under crates/ is newer. make is asked, since `rt lib`
+# proves its crate each time, and `rt run` proves the programs again that `rt ci` has proved and left.
+made() {
+    need_make
+    make "$1" >"$out/$2.log" 2>&1 || give_up "make $1: $(grep -v '^make' "$out/$2.log" | tail -n 1) (see $out/$2.log)"
+}
+
+# Sets `archive`: TARN_ARCHIVE if that is set, else that of crate `tarnsatchel`.
 need_archive() {
-    archive=${TARN_ARCHIVE:-target/staticlib/libtarnsatchel.a}
-    if [ -z "${TARN_ARCHIVE:-}" ]; then
-        need_make
-        make "$archive" >"$out/staticlib.log" 2>&1 ||
-            give_up "make $archive: $(grep -v '^make' "$out/staticlib.log" | tail -n 1) (see $out/staticlib.log)"
-    fi
+    archive=${TARN_ARCHIVE:-crates/tarnsatchel/out/libtarnsatchel.a}
+    [ -n "${TARN_ARCHIVE:-}" ] || made "$archive" archive
     [ -f "$archive" ] || give_up "no archive $archive"
 }
 
-# need_built NAME [FILE]: sets `built`, the command of the program of crate NAME, proved first if it has changed; or of FILE
+# need_built NAME [FILE]: sets `built`, the command of the program of crate NAME, or of FILE
 need_built() {
-    local name=$1 file=${2:-target/bin/$1}
-    [ -n "${2:-}" ] || rt check "$name" >"$out/$name.log" 2>&1 ||
-        give_up "rt check $name: $(tail -n 1 "$out/$name.log") (see $out/$name.log)"
+    local name=$1 file=${2:-crates/$1/out/$1}
+    [ -n "${2:-}" ] || made "$file" "$name"
     [ -x "$file" ] || give_up "no program $file"
     built=("${program_runner[@]}" "$file")
 }

@@ -27,14 +27,18 @@ bounded() { timeout "$patience" env --default-signal=PIPE "$@"; }
 # No contract says what a call of the system did, nor that the input named at a call is the one that was read (docs/PROMISES.md). So
 # each line of a program's code that calls the system, takes bytes, names the input or hands it down stands in tests/believed.txt too,
 # and each of any other room that calls the system: who changes one, or adds one, sees it here and reads on.
+# What calls the system has the handle that main is given, or calls a reader or a writer of std.
+system='\b(std|io|libc|os|rt|HostRuntime|Read|Write|stdin|stdout|stderr)\b|\.(read|write|flush)'
+# code_lines WORDS: the lines of code that have one of them, each behind its file
+code_lines() { grep -rE --include='*.rt' "$1" crates/*/src | grep -vE ':[[:space:]]*(//|requires|ensures|ghost)'; }
 read_lines() {
-    local calls='\b(tell|answer|list|rows|put_line|make_room|pass_on|hand_on)\(' system='\b(io|libc|os)\b' programs='^crates/(list|tree)/'
+    local calls='\b(tell|answer|list|rows|put_line|make_room|pass_on|hand_on|read_full)\(' programs='^crates/(list|tree)/'
     {
-        grep -rE --include='*.rt' "$system" crates | grep -vE "$programs"
-        grep -rE --include='*.rt' "$system|$calls|\binput\b|&\[u8\]" crates | grep -E "$programs"
-    } | grep -vE ':[[:space:]]*(//|requires|ensures|ghost)' | sort -s -t : -k 1,1 | sed -e 's|^crates/||' -e 's|/src/|/|'
+        code_lines "$system" | grep -vE "$programs"
+        code_lines "$system|$calls|\binput\b|&\[u8\]" | grep -E "$programs"
+    } | sort -s -t : -k 1,1 | sed -e 's|^crates/||' -e 's|/src/|/|'
 }
-same "the rooms that can call the system" <(grep -E ':.*\b(io|libc|os)\b' crates.txt | cut -d : -f 1) <(printf 'lines\nlist\ntree\n')
+same "the rooms that can call the system" <(code_lines "$system" | cut -d / -f 2 | sort -u) <(printf 'lines\nlist\ntree\n')
 same "what is read and not proved" <(read_lines) <(grep -v '^#' tests/believed.txt)
 
 # ---- the tree program
@@ -345,28 +349,32 @@ done
 # ---- with stand-ins
 
 # A repository of three rooms that the listing program needs, one more for the program tree, and one that neither does; the host is
-# said to be one that runs the stand-ins.
-copy=$out/copy
-mkdir -p "$copy/crates" "$copy/bin" && cp list "$copy"
+# said to be one that runs the stand-ins. It stands elsewhere, since rt wants one crates.txt in a repository.
+copy=$(mktemp -d) || exit 2
+trap 'rm -rf "$copy"' EXIT
+mkdir -p "$copy/crates/"{low,other,middle,list,tree} "$copy/bin" && cp list "$copy"
 printf '# rooms\nlow:\nother: low\nmiddle: low io\nlist: middle libc\ntree: middle libc\n' >"$copy/crates.txt"
 # stand_in FILE: a program of these lines
 stand_in() { { echo '#!/bin/sh'; cat; } >"$1" && chmod +x "$1"; }
 echo 'echo x86_64' | stand_in "$copy/bin/uname"
-in_copy() { PATH=$PWD/$copy/bin:$PATH "$copy/list" "$pairs"; }
+in_copy() { PATH=$copy/bin:$PATH "$copy/list" "$pairs"; }
 # with a tree that is typed
-in_copy_typed() { PATH=$PWD/$copy/bin:$PATH "$copy/list" "$names.tree" "$pairs"; }
+in_copy_typed() { PATH=$copy/bin:$PATH "$copy/list" "$names.tree" "$pairs"; }
 log=$(readlink -f "$copy")/target/list.log
 # begins NAMES: what is said before all else
 begins() { echo "list: proved and built first: $1; the prover's words go to $log"; }
+# in the folder of each room that is needed, once: a library's `rt lib`, or `rt run` of a program, which stays in out/
 proves() {
     stand_in "$copy/bin/rt" <<'LINES'
-echo "logic=proved and many words"
-mkdir -p target/bin && shift
-for room in low middle "$@"; do echo "rt: $room proved (1 s)"; done
-for name; do
-    echo "rt: $name ran, and wrote what its file 'stdout' has (0 s)"
-    cp "bin/stand_in_$name" "target/bin/$name"
-done
+name=$(basename "$PWD")
+case $1:$name in
+lib:low | lib:middle) mkdir -p out ;;
+run:list | run:tree)
+    echo "logic=proved and many words"
+    mkdir -p out && cp "../../bin/stand_in_$name" "out/$name" && echo 'refused 1 at 0'
+    ;;
+*) exit 2 ;;
+esac
 LINES
 }
 
@@ -378,29 +386,29 @@ same "one line a room" "$out/said" <(begins list; printf '%d of 3 rooms proved\n
 same "the log" <(grep -c 'many words' "$log") <(echo 1)
 prints "built already" 0 <(printf 'records 0\nrows 0\n') in_copy
 lines "built already" 0
-touch "$copy/crates/changed"
+mkdir "$copy/crates/low/src" && touch "$copy/crates/low/src/changed"
 prints "a file that is newer" 0 <(printf 'records 0\nrows 0\n') in_copy
 lines "a file that is newer" 4
 prints "tree not built yet" 0 <(printf 'records 0\nrows 0\n') in_copy_typed
 same "only tree is built" "$out/said" <(begins tree; printf '%d of 3 rooms proved\n' 1 2 3)
-touch "$copy/crates/changed"
+touch "$copy/crates/low/src/changed"
 prints "a file that is newer than both" 0 <(printf 'records 0\nrows 0\n') in_copy_typed
 same "both are built" "$out/said" <(begins 'list tree'; printf '%d of 4 rooms proved\n' 1 2 3 4)
 prints "both built already" 0 <(printf 'records 0\nrows 0\n') in_copy_typed
 lines "both built already" 0
 
-printf 'echo "records 1"; kill -SEGV $$' | stand_in "$copy/target/bin/list"
+printf 'echo "records 1"; kill -SEGV $$' | stand_in "$copy/crates/list/out/list"
 prints "a signal" 139 <(echo 'records 1') in_copy
-true | stand_in "$copy/target/bin/list"
+true | stand_in "$copy/crates/list/out/list"
 prints "a program that says nothing" 2 /dev/null in_copy
 lines "a program that says nothing" 1
-printf 'kill -SEGV $$' | stand_in "$copy/target/bin/tree"
+printf 'kill -SEGV $$' | stand_in "$copy/crates/tree/out/tree"
 prints "a signal in the program tree" 139 /dev/null in_copy_typed
-true | stand_in "$copy/target/bin/tree"
+true | stand_in "$copy/crates/tree/out/tree"
 prints "a program tree that says nothing" 2 /dev/null in_copy_typed
 lines "a program tree that says nothing" 1
 # so a write that fails is told
-printf 'printf "\\1"; echo "tree: not written" >&2' | stand_in "$copy/target/bin/tree"
+printf 'printf "\\1"; echo "tree: not written" >&2' | stand_in "$copy/crates/tree/out/tree"
 prints "a program tree that fails" 2 /dev/null in_copy_typed
 same "its words" "$out/said" <(echo "list: $names.tree: tree: not written")
 
@@ -409,19 +417,19 @@ there=$(readlink -f "$copy")
 beside=$there/on/aarch64/toolchain
 mkdir -p "$beside/bin" && echo 'echo aarch64' | stand_in "$copy/bin/uname"
 printf 'echo "$@" >>"$(dirname "$0")/ran"; shift 3; exec "$@"' | stand_in "$beside/bin/qemu-x86_64"
-cp "$copy/bin/stand_in_list" "$copy/target/bin/list" && cp "$copy/bin/stand_in_tree" "$copy/target/bin/tree"
+for name in list tree; do cp "$copy/bin/stand_in_$name" "$copy/crates/$name/out/$name"; done
 prints "an Arm host" 0 <(printf 'records 0\nrows 0\n') in_copy_typed
 same "both programs under the emulator" "$beside/bin/ran" \
-    <(for name in tree list; do echo "$beside/lib/ld-linux-x86-64.so.2 --library-path $beside/lib $there/target/bin/$name"; done)
+    <(for name in tree list; do echo "$beside/lib/ld-linux-x86-64.so.2 --library-path $beside/lib $there/crates/$name/out/$name"; done)
 # the line is found without the emulator; the tree has two bytes
 mkdir -p "$copy/examples/streams" && cp examples/streams/bytes.sh "$copy/examples/streams"
-echo 'echo "refused 3 at 5"' | stand_in "$copy/target/bin/list"
-in_copy_typed_both() { PATH=$PWD/$copy/bin:$PATH "$copy/list" "$names.tree" "$query"; }
+echo 'echo "refused 3 at 5"' | stand_in "$copy/crates/list/out/list"
+in_copy_typed_both() { PATH=$copy/bin:$PATH "$copy/list" "$names.tree" "$query"; }
 prints "a refusal on an Arm host" 1 <(echo 'refused 3 at 5') in_copy_typed_both
 same "a refusal on an Arm host: what is said" "$out/said" <(echo "$query:6: 17 5 0 0")
 
-rm "$copy/target/bin/list"
-printf 'echo "rt: low proved (1 s)"; echo "rt: middle NOT PROVED (exit 1, 1 s)"; exit 1\n' | stand_in "$copy/bin/rt"
+rm "$copy/crates/list/out/list"
+echo 'echo "logic=not-proved"; [ "$(basename "$PWD")" = low ]' | stand_in "$copy/bin/rt"
 prints "a room that is not proved" 2 /dev/null in_copy
 same "it names the log" "$out/said" <(begins list; echo "1 of 3 rooms proved"; echo "list: not proved and built: see $log")
 end_checks

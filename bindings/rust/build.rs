@@ -1,4 +1,4 @@
-//! Links libtarnsatchel.a: the one that `make` writes to the repository's target/staticlib, or the archive that TARN_ARCHIVE names.
+//! Links libtarnsatchel.a: the one that `make` leaves in the repository's crates/tarnsatchel/out, or the archive that TARN_ARCHIVE names.
 
 use std::env;
 use std::fs;
@@ -8,7 +8,7 @@ const ARCHIVE: &str = "libtarnsatchel.a";
 
 fn main() {
     println!("cargo:rerun-if-env-changed=TARN_ARCHIVE");
-    let written = cargo_folder("CARGO_MANIFEST_DIR").join("../../target/staticlib").join(ARCHIVE);
+    let written = cargo_folder("CARGO_MANIFEST_DIR").join("../../crates/tarnsatchel/out").join(ARCHIVE);
     let named = env::var_os("TARN_ARCHIVE").filter(|name| !name.is_empty());
     let archive = named.map_or(written, PathBuf::from);
     println!("cargo:rerun-if-changed={}", archive.display());

@@ -34,7 +34,7 @@ pub mod TurnLoop
 pub mod Beginning
 pub mod Finishing
 pub mod Storing
+pub mod DriveLoop
 pub mod Facing
-pub mod StateShape
 pub mod BuildRight
 pub mod OneAnswer

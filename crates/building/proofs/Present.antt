@@ -22,7 +22,8 @@ use Rattle.stream.proofs.TreeSteps.{grow_few, unjoined_nodes}
 use Rattle.building.specs.Bounds.{most_nodes, most_places, most_states}
 use Rattle.building.specs.Frames.{width}
 use Rattle.building.specs.Kinds.{leaf_kind, rule_above}
-use Rattle.building.specs.Standing.{AtNode, Constants, State}
+use Rattle.building.specs.Batch.{Record}
+use Rattle.building.specs.Standing.{AtNode, Constants, Standing, State}
 use Rattle.building.proofs.Frames.{top_fits}
 use Rattle.building.proofs.NodeOrder.{stack_high, tests_at_lem, two_unjoined}
 use Rattle.building.proofs.Places.{TreePlace, tree_place}
@@ -137,3 +138,7 @@ node_ready input t work k n room = record {
   nodes = few_nodes input t k n;
   frame = omega (arith, frame_room input t k n);
 }
+
+-- where the building stands
+pub standing_ready : {input : List ℕ} {t : State} {work : List ℕ} {made : List Record} → Standing input t work made → NodeReady input t work
+standing_ready {input} {t} {work} s = node_ready input t work s.constants s.node s.frames.room

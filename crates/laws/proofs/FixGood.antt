@@ -8,7 +8,7 @@ use mathlib.Core.Path.{◌∙◌, ◌≡◌, ap, ap₂, refl, subst, sym}
 use Prim.Native.Nat.{◌+◌, ◌-◌, ◌<◌, ◌≤◌, ℕ}
 use native.Mathlib.Omega.{arith}
 use borrow.Author.Tests.{le-leb, leb-true, lt-ltb}
-use lib.Dec.{T, eqb, leb}
+use lib.Dec.{eqb, leb}
 use lib.ListN.{get_or, length, take}
 use Rattle.paper.specs.Building.{product_record, single_record, union_record}
 use Rattle.paper.specs.Lists.{Once, through}
@@ -16,7 +16,7 @@ use Rattle.paper.specs.Questions.{fixed_set, has_place, image, image_of, image_s
 use Rattle.paper.specs.Records.{listing, listings, set_rows, used_of}
 use Rattle.paper.specs.Refusals.{answer, fix, fix_tests, is_open, over}
 use Rattle.paper.specs.Row.{Row}
-use Rattle.paper.specs.Sound.{entry, sound}
+use Rattle.paper.specs.Sound.{entry}
 use Rattle.laws.specs.Fixings.{GoodSet, picked}
 use Rattle.laws.specs.Plain.{Head, Record, Set, at, empty, unit}
 use Rattle.laws.specs.QuestionCauses.{IsUnion, SetFits, SoundAt, UnitTwice}
@@ -32,7 +32,6 @@ use Rattle.laws.proofs.Shaped.{shaped_all, union_rows}
 use Rattle.laws.proofs.SoundRecords.{SoundFrom}
 use Rattle.laws.proofs.SoundTest.{is_sound}
 use Rattle.laws.proofs.Stands.{OnceFrom, Stands, not_unit_twice}
-use Rattle.laws.proofs.TestedCauses.{fits}
 use Rattle.laws.proofs.Tests.{passes_if_not}
 
 -- ---- a fixing makes at most one record for each

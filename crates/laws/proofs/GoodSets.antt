@@ -4,7 +4,7 @@ use mathlib.Core.List.{List, []}
 use mathlib.Core.Path.{◌∙◌, ◌≡◌, ap, refl, subst, sym}
 use Prim.Native.Nat.{◌<◌, ◌^◌, ◌≤◌, ℕ}
 use native.Mathlib.Omega.{arith}
-use lib.ListN.{drop, get_or, length, length-append, set, take}
+use lib.ListN.{drop, get_or, length, length-append, take}
 use lib.Seq.{length-take-le, take-append_seam}
 use Rattle.paper.specs.Lists.{Once}
 use Rattle.paper.specs.Records.{listing, listings, set_rows, used_of}

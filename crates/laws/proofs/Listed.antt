@@ -16,7 +16,6 @@ use Rattle.paper.specs.Questions.{has_place, is_listed, stands_at}
 use Rattle.paper.specs.Row.{Row, blank}
 use Rattle.laws.specs.Said.{StandsIn}
 use Rattle.laws.proofs.Lists.{has_true, or_cases, or_left, or_right, same_refl, same_true, true_has}
-use Rattle.laws.proofs.Rows.{half}
 
 -- ---- rows of a listing
 pub listed_in : (rows : List Row) (row : Row) → is_listed rows row ≡ true → row ∈ rows

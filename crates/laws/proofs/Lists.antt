@@ -1,6 +1,6 @@
 -- Facts about tests and lists that the other files lean on.
 -- In order: tests; members, and lists with no element twice; lists one after the other; ranges; left folds, for loops.
--- In the names `mem-` says what a member is, `in-` what is a member, and `once-` that no element stands twice.
+-- In the names `mem_` says what a member is, `in_` what is a member, and `once_` that no element stands twice.
 use mathlib.Core.Bool.{Bool, ◌&&◌, ◌||◌, cond, false, false≢true, true}
 use mathlib.Core.List.Memᴰ
 use mathlib.Core.List.{List, [], ◌++◌, ◌∷◌, map}

@@ -13,7 +13,6 @@ use Rattle.paper.specs.Refusals.{at_each, tree_end_tests, tree_part, tree_tests}
 use Rattle.paper.specs.Stream.{StreamRecord, number}
 use Rattle.paper.specs.Tree.{Tree, grow, join, last_of, leaf, tree_of, unjoined}
 use Rattle.laws.specs.Numbered.{Numbered, branch_numbered, leaf_numbered}
-use Rattle.laws.specs.Plain.{at}
 use Rattle.laws.proofs.AtEach.{at_each_lem, part_each, part_end}
 use Rattle.laws.proofs.Lists.{through_append}
 use Rattle.laws.proofs.Replies.{Passes}

@@ -13,7 +13,7 @@ use lib.ListN.{get_or-append, length, length-append}
 use lib.Seq.{append_snoc}
 use Rattle.paper.specs.Records.{blank_entry}
 use Rattle.paper.specs.Sound.{entry, operands, sound_kind, sound_record, sound_records}
-use Rattle.laws.specs.Plain.{Record, at}
+use Rattle.laws.specs.Plain.{Record}
 use Rattle.laws.specs.QuestionCauses.{IsProduct, IsSingle, IsUnion, SoundAt}
 use Rattle.laws.proofs.Tests.{Says, says_and, says_below, says_equal, says_nothing, says_or}
 

@@ -4,7 +4,6 @@ use mathlib.Core.Bool.{Bool, ◌||◌, false, true, true≢false}
 use mathlib.Core.List.Memᴰ
 use mathlib.Core.List.{List, [], ◌++◌, ◌∷◌, append_assoc, head-eq_of_cons-eq, nil≢cons, tail-eq_of_cons-eq}
 use mathlib.Core.Logic.{◌⊎◌, inl, inr, ⊎_elim}
-use mathlib.Core.Option.{none}
 use mathlib.Core.Path.{◌∙◌, ◌≡◌, ap, refl, subst, sym}
 use Prim.Native.Nat.{◌+◌, ◌<◌, ◌≤◌, suc, zero, ℕ}
 use native.Mathlib.Omega.{arith}
@@ -15,7 +14,6 @@ use lib.Seq.{drop_at, drop-cons, length-take-le, take_at}
 use Rattle.paper.specs.Lists.{through}
 use Rattle.paper.specs.Stream.{StreamRecord, body_length, behind, is_tree_kind, query_records, records_of, records_within, tree_records, whole}
 use Rattle.paper.specs.Tree.{Tree, grow, join, unjoined}
-use Rattle.laws.specs.Plain.{at}
 use Rattle.laws.specs.StreamCauses.{AllTree, Begins, TreeEnds, TreeKind, of_kind, written}
 use Rattle.laws.proofs.Lists.{here, only, through_append}
 use Rattle.laws.proofs.Stands.{later}

@@ -11,7 +11,6 @@ use lib.Dec.{eqb}
 use Rattle.paper.specs.Lists.{Once, ◌∈◌, has}
 use Rattle.paper.specs.Refusals.{No, Test, answer, no, no_at, number_in, unless}
 use Rattle.laws.specs.First.{NoneOf}
-use Rattle.laws.specs.Plain.{at}
 use Rattle.laws.proofs.Lists.{both_true, here, only, true_has, which}
 use Rattle.laws.proofs.Replies.{Fits, answered, answers, ends, none_passes, passes_none, skips, tests}
 use Rattle.laws.proofs.Tests.{Fails}

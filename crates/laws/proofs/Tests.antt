@@ -6,7 +6,6 @@ use mathlib.Core.Path.{◌∙◌, ◌≡◌, refl, sym}
 use Prim.Native.Nat.{◌<◌, ◌≤◌, ℕ}
 use borrow.Author.Tests.{eq-eqb, eqb-false, eqb-true, le-leb, le-ltb, leb-false, leb-true, lt-leb, lt-ltb, ltb-false, ltb-true, ne_eqb, not-false}
 use lib.Dec.{eqb, leb, ltb}
-use Rattle.laws.specs.Plain.{at}
 use Rattle.laws.proofs.Lists.{both_true, which}
 
 -- ---- tests that pass

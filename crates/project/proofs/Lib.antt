@@ -1,9 +1,9 @@
 pub mod Zeros
 pub mod Marking
-pub mod StateShape
 pub mod Operands
 pub mod Standing
 pub mod Made
 pub mod Passing
+pub mod Driving
 pub mod Projecting
 pub mod Facing

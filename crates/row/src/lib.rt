@@ -33,7 +33,7 @@ pub fn row(head: Head, table: &[Record], work: &mut [u64], number: u64, out: &mu
 
 // All descents, one record a turn. It ends, since in a descent each record is lower than the one
 // before it, and each descent is for a later place than the one before; there are at most four. The
-// loop is as in `sound` and the other questions, so that one law of walks proves them all.
+// loop is as in `sound` and the other questions.
 fn drive(table: &[Record], s: State, work: &mut [u64]) -> State
     requires { Ready table.now s work.old }
     ensures { Descended table.now s work.old result work.new }

@@ -57,8 +57,7 @@ pub fn count(head: Head, table: &[Record], work: &mut [u64]) -> Counted
 }
 
 // All used records, one after the other. It ends behind the last of them, since `at` rises by 1 a
-// turn, or at the first that is not sound. Such a loop over a slice of structs is
-// proved by a law of its shape (`walks`), so all that is done with a record stands in `next`.
+// turn, or at the first that is not sound. All that is done with a record stands in `next`.
 fn drive(table: &[Record], s: State, work: &mut [u64]) -> State
     requires { Ready table.now s work.old }
     ensures { Passed table.now s work.old result work.new }

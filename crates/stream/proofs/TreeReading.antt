@@ -11,7 +11,7 @@ use lib.Dec.{ltb}
 use lib.ListN.{drop, get_or, length, length-append}
 use Rattle.paper.specs.Lists.{◌∈◌}
 use Rattle.paper.specs.Refusals.{No, Test, answer, at_each, no_at, nodes_in, refused, tests_at, tree_end_tests, tree_part, tree_tests, unless, tree_end}
-use Rattle.paper.specs.Stream.{StreamRecord, behind, body_length, is_tree_kind, records_of, tree_records, whole}
+use Rattle.paper.specs.Stream.{StreamRecord, behind, body_length, is_tree_kind, records_of, tree_records}
 use Rattle.paper.specs.Tree.{most_unjoined, unjoined}
 use Rattle.laws.specs.StreamCauses.{AllTree, written}
 use Rattle.laws.proofs.Lists.{both_true, here, which}

@@ -98,7 +98,9 @@ waits_last table (suc n) some = let before : suc n - 1 ≡ n = omega arith in rw
 -- stored anew
 pub waits_anew : (table : List ℕ) (n b : ℕ) → 0 < n → n ≤ length table → waits (set table (n - 1) b) n ≡ stage_of b ∷ waits table (n - 1)
 waits_anew table zero b some within = absurd (omega arith)
-waits_anew table (suc n) b some within = let before : suc n - 1 ≡ n = omega arith in rw before (last_waits table b n within)
+waits_anew table (suc n) b some within =
+    let before : suc n - 1 ≡ n = omega arith in
+    subst (λ m. waits (set table m b) (suc n) ≡ stage_of b ∷ waits table m) (sym before) (last_waits table b n within)
 
 -- ---- the loop of `completed`: of so many nodes that still wait the same comes as of all, with the bytes that are put already
 pub record Completing (waiting text₀ : List ℕ) (s : Writing) (text : List ℕ) (top start : ℕ) : Type 0 where

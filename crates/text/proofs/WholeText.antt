@@ -1,13 +1,13 @@
 -- The whole text: the bytes read so far and those to come make the image, from the first byte to the end.
 -- First what a byte leaves that begins no comment, then one that does, then the loop.
-use mathlib.Core.Bool.{Bool, true, false, cond, not, ◌&&◌, false≢true}
+use mathlib.Core.Bool.{Bool, true, false, cond, ◌&&◌, false≢true}
 use mathlib.Core.List.{List, [], ◌∷◌}
 use mathlib.Core.Logic.{◌⊎◌, inl, inr}
 use mathlib.Core.Path.{◌≡◌, refl, sym, ◌∙◌, ap, subst}
 use Prim.Native.Nat.{ℕ, ◌+◌, ◌-◌, ◌*◌, ◌≤◌, ◌<◌}
 use native.Mathlib.Numerals.{add-one}
 use native.Mathlib.Omega.{arith}
-use borrow.Author.Tests.{ne_eqb, eqb-false, not-true}
+use borrow.Author.Tests.{ne_eqb}
 use lib.Dec.{eqb, leb}
 use lib.ListN.{length, get_or, drop}
 use lib.Seq.{drop-cons}
@@ -105,9 +105,9 @@ text_begins text labels image long-labels long-image s e = subst (λ x. SoFar te
     none = drop_past labels 2047 (omega arith)
 
 -- the test of the loop
-pub not_over : (text : List ℕ) (s : Reading) (labels image : List ℕ) (at : ℕ) → SoFar text s labels image at → not (eqb s.mode 65) ≡ true
+pub not_over : (text : List ℕ) (s : Reading) (labels image : List ℕ) (at : ℕ) → SoFar text s labels image at → (s.mode ≡ 65 → ⊥)
     → s.mode < 65
-not_over text s labels image at so_far h = let other = eqb-false s.mode 65 (not-true _ h) in omega (arith, so_far.room.mode)
+not_over text s labels image at so_far other = omega (arith, so_far.room.mode)
 
 module _ (text : List ℕ) (s : Reading) (labels image : List ℕ) (at : ℕ) (so_far : SoFar text s labels image at) (here : at < length text)
     (Going-on : s.mode < 65) where

@@ -1,0 +1,41 @@
+-- `node::join_frames` leaves a leaf's frame and copies a branch's down.
+use Rattle.std.proofs.Common.{arith}
+use Rattle.building.proofs.Joining.{branch_joined, join_room, leaf_joined, two_below}
+use Rattle.building.proofs.Present.{standing_ready}
+use Rattle.building.proofs.node.join_frames.Goals as goal
+
+pub overflow_add-result : goal.overflow_add-result
+overflow_add-result c = omega (arith, standing_ready c.requires.1)
+
+pub returns-then-input-at-eq-LEAF : goal.returns-then-input-at-eq-LEAF
+returns-then-input-at-eq-LEAF c made s = leaf_joined _ _ _ made s c.if-input-at-eq-LEAF.true
+
+pub frame_at-from-requires-clause-arity_le_most_places : goal.frame_at-from-requires-clause-arity_le_most_places
+frame_at-from-requires-clause-arity_le_most_places c = let r = standing_ready c.requires.1 in (r.arity, r.states)
+
+pub frame_at-from-requires-clause-frame_le_most_frames : goal.frame_at-from-requires-clause-frame_le_most_frames
+frame_at-from-requires-clause-frame_le_most_frames c = omega (arith, standing_ready c.requires.1)
+
+pub overflow_sub-t : goal.overflow_sub-t
+overflow_sub-t c = two_below _ _ _ _ c.requires.1 c.if-input-at-eq-LEAF.false
+
+pub frame_at-to-requires-clause-arity_le_most_places : goal.frame_at-to-requires-clause-arity_le_most_places
+frame_at-to-requires-clause-arity_le_most_places c = let r = standing_ready c.requires.1 in (r.arity, r.states)
+
+pub frame_at-to-requires-clause-frame_le_most_frames : goal.frame_at-to-requires-clause-frame_le_most_frames
+frame_at-to-requires-clause-frame_le_most_frames c = omega (arith, standing_ready c.requires.1)
+
+pub frame_width-requires : goal.frame_width-requires
+frame_width-requires c = let r = standing_ready c.requires.1 in (r.arity, r.states)
+
+pub copy_down-requires : goal.copy_down-requires
+copy_down-requires c =
+    join_room _ _ _ _ c.requires.1 c.if-input-at-eq-LEAF.false c.frame_at-from.ensures c.frame_at-to.ensures c.frame_width.ensures
+
+pub overflow_sub-result : goal.overflow_sub-result
+overflow_sub-result c = omega (arith, two_below _ _ _ _ c.requires.1 c.if-input-at-eq-LEAF.false)
+
+pub returns : goal.returns
+returns c made s =
+    branch_joined _ _ _ made s c.if-input-at-eq-LEAF.false c.frame_at-from.ensures c.frame_at-to.ensures c.frame_width.ensures
+    c.copy_down.ensures
