@@ -15,7 +15,12 @@ first_error() { grep -m 1 ': error: ' "$log"; }
 
 # The crates as they stand. A check in a copy begins with what these kept: rt finds that by itself.
 for crate in laws writings; do
-    check . "$crate" || { first_error || tail -n 1 "$log"; echo "$crate is not proved as it stands"; echo "0 passed, 1 failed"; exit 1; }
+    check . "$crate" || {
+        first_error || tail -n 1 "$log"
+        echo "$crate is not proved as it stands"
+        echo "0 passed, 1 failed"
+        exit 1
+    }
 done
 
 passed=0 failed=0
@@ -38,7 +43,12 @@ for edit in tests/across/*.edit; do
             at = index(text, ENVIRON["OLD"])
             if (!at) exit 3
             printf "%s%s%s", substr(text, 1, at - 1), ENVIRON["NEW"], substr(text, at + length(ENVIRON["OLD"]))
-        }' "$copy/crates/paper/$file" >"$copy/edited" && mv "$copy/edited" "$copy/crates/paper/$file" || { echo "$label: BAD EDIT"; failed=$((failed + 1)); rm -rf "$copy"; continue; }
+        }' "$copy/crates/paper/$file" >"$copy/edited" && mv "$copy/edited" "$copy/crates/paper/$file" || {
+        echo "$label: BAD EDIT"
+        failed=$((failed + 1))
+        rm -rf "$copy"
+        continue
+    }
     check "$copy" "$crate"
     status=$?
     # rt stamps a library that is proved and built

@@ -6,7 +6,6 @@
 #                                      only what has changed since either
 #   bash tests/refused.sh list [LOG]   the lines as tests/refused.txt must have them, in the order of crates.txt
 set -u
-export LC_ALL=C
 cd "$(dirname "$0")/.." || exit 2
 mode=compare
 [ "${1:-}" != list ] || { mode=list && shift; }
@@ -17,6 +16,7 @@ if [ -z "$said" ]; then
     rt must-fail >"$said" 2>&1 </dev/null
 fi
 [ -r "$said" ] || exit 2
+export LC_ALL=C
 
 # The function that a line of a source file is in, as the checker names it. One begins with its attributes.
 function_at() { # CRATE FILE LINE

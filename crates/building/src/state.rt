@@ -1,5 +1,4 @@
-// Where the building stands between two turns. A state is handed on by value, and returned: a function
-// that takes a reference to a struct would be proved by hand.
+// Where the building stands between two turns. A state is handed on by value, and returned.
 ghost use Rattle.std.specs.Prelude.{◌≡◌, ◌≤◌};
 ghost use Rattle.building.specs.States.{counted};
 

@@ -51,5 +51,5 @@ pub data Siblings : List Token → Forest → List Token → Type 0 where
 pub record Writes (t : List ℕ) (w : WrittenTree) : Type 0 where
   pub tokens : List Token
   pub cut : Cut t tokens
-  pub one_root_lem : Siblings tokens (forest_of w) []
+  pub one_root : Siblings tokens (forest_of w) []
   pub few : written_nodes w ≤ 2047

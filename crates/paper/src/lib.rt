@@ -143,7 +143,7 @@ impl StreamRefusal {
     }
 }
 
-// The answers. Each call has an enum of its own, since the language has no generics; a case for each answer, and one for a refusal.
+// The answers. Each call has an enum of its own; a case for each answer, and one for a refusal.
 
 // Build: the set stands in the table, and this is its head.
 #[derive(Clone, Copy)]

@@ -1,5 +1,4 @@
-// Where the pass over the used records stands. It goes into a turn and comes back by value: a
-// reference to a struct would leave the turn to a proof by hand.
+// Where the pass over the used records stands. It goes into a turn and comes back by value.
 
 // Record `at` is tested next; those before it are sound, and their weights stand in the work.
 // `used`, `nodes` and `arity` are the head's, and stay. `sound` is that nothing has failed yet,

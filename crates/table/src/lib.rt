@@ -1,6 +1,5 @@
 // The lent table of records: the two functions that write it, what the second calls, and the set that a number is.
-// Those two hold a slice of structs and are proved by hand, with the laws of `walks`; so whatever can be done on
-// plain numbers is done by the others, which the borrow checker covers.
+// Those two hold a slice of structs; whatever can be done on plain numbers is done by the others.
 #![tactic(auto)]
 
 ghost use Rattle.std.specs.Prelude.{◌≡◌, ◌+◌, ◌*◌, ◌<◌, length, replicate};
@@ -42,7 +41,7 @@ pub fn blank(table: &mut [Record])
 }
 
 // The first `count` records of a batch, five numbers each, to the entries from `from` on; nothing where they do not fit.
-// A batch is plain numbers, so that what makes records holds no slice of structs, and the borrow checker covers it.
+// A batch is plain numbers, so that what makes records holds no slice of structs.
 // `store` asks for nothing: a caller that knows that the records fit learns from `stored` that they stand there.
 pub fn store(table: &mut [Record], from: usize, batch: &[u16], count: usize)
     ensures { table.new ≡ stored table.old from batch.now count }

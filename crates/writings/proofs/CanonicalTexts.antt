@@ -53,7 +53,7 @@ before (tree l (tree l' c' s') s) h {t} {ts} g n =
 pub canonical_writes : (w : WrittenTree) → Allowed w → Writes (text_of w) w
 canonical_writes w a =
     let r = before (forest_of w) a.labels end tt in
-    record { tokens = r.tokens; cut = rw (append-nil (text_of w)) at r.cut; one_root_lem = r.siblings; few = a.few }
+    record { tokens = r.tokens; cut = rw (append-nil (text_of w)) at r.cut; one_root = r.siblings; few = a.few }
 
 -- ---- how long it is
 decimal_length : (l : ℕ) → length (decimal l) ≤ 2

@@ -49,11 +49,11 @@ read_writes t w e = go (cut_from outside t) refl e
     go none h e' = absurd (none-ne-some w e')
     go (some ts) h e' =
         let (one, few) = closed_root_read (ending_of ts) w e' in
-        record { tokens = ts; cut = found_cut t ts h; one_root_lem = one_forest ts (forest_of w) one; few = few }
+        record { tokens = ts; cut = found_cut t ts h; one_root = one_forest ts (forest_of w) one; few = few }
 
 -- every text of a tree is read, and as that tree
 pub writes_read : (t : List ℕ) (w : WrittenTree) → Writes t w → read_text t ≡ some w
-writes_read t w h = rw (cut_found h.cut, whole_found h.one_root_lem) (one_root_found w h.few)
+writes_read t w h = rw (cut_found h.cut, whole_found h.one_root) (one_root_found w h.few)
 
 pub read_exactly : (t : List ℕ) (w : WrittenTree) → (read_text t ≡ some w) ↔ Writes t w
 read_exactly t w = (read_writes t w, writes_read t w)
@@ -94,4 +94,4 @@ labels_fit (with_brackets g g') h =
     ((h.0, r.0, r'.0), r'.1)
 
 pub writes_allowed : (t : List ℕ) (w : WrittenTree) → Writes t w → Allowed w
-writes_allowed t w h = record { labels = (labels_fit h.one_root_lem (cut_fit h.cut)).0; few = h.few }
+writes_allowed t w h = record { labels = (labels_fit h.one_root (cut_fit h.cut)).0; few = h.few }

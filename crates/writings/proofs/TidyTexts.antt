@@ -220,7 +220,7 @@ siblings_spaced (with_brackets {l = l} {c = c} {s = s} {rest = rest} g g') h n =
 
 pub tidy_canonical : (t : List ℕ) (w : WrittenTree) → Writes t w → Tidy t → t ≡ text_of w
 tidy_canonical t w h tidy =
-    e ∙ (siblings_spaced h.one_root_lem (none_empty h.tokens 0 (subst (TidyAfter 0) e tidy)) tt).0 ∙ append-nil (text_of w)
+    e ∙ (siblings_spaced h.one_root (none_empty h.tokens 0 (subst (TidyAfter 0) e tidy)) tt).0 ∙ append-nil (text_of w)
   where
     e : t ≡ spaced h.tokens
     e = (cut_spaced h.cut).behind_other 0 (no_digit 0 (inl (omega arith))) tidy
