@@ -1,0 +1,6 @@
+pub mod Prelude
+pub mod Steps
+pub mod Locals
+pub mod Loops
+pub mod Parameters
+pub mod Contracts
