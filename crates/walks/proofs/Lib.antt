@@ -4,3 +4,4 @@ pub mod Locals
 pub mod Loops
 pub mod Parameters
 pub mod Contracts
+pub mod Lending
