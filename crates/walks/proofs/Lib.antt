@@ -5,3 +5,4 @@ pub mod Loops
 pub mod Parameters
 pub mod Contracts
 pub mod Lending
+pub mod Entries
