@@ -8,6 +8,7 @@ use mathlib.Core.List.{List, [], ◌∷◌}
 use lib.Dec.{lit<}
 use lib.ListN.{length, get_or, set}
 use seplogic.Ra.Ura.{Ura}
+use base.Fraction.{full_share}
 use mir.Syntax.{Ty}
 use mir.Val.{Val, vptr}
 use base.Fml.{Lft, Share, flft, fhide}
@@ -25,6 +26,7 @@ use Rattle.paper.specs.declared.Record.{Record}
 use Rattle.paper.specs.Records.{blank_entry}
 use Rattle.paper.specs.contracts.Record as T
 use Rattle.paper.proofs.Record.TheLaws as T'
+use Rattle.walks.proofs.Lending.{Showable}
 use Rattle.walks.proofs.Steps.{Typed}
 
 abbrev pub Entry : RattleType
@@ -41,6 +43,10 @@ vals = LL.vals T.the_type T'.the_laws
 
 pub entry_tells : Tells Entry (Is Entry) vals
 entry_tells = LL.tells T.the_type T'.the_laws
+
+-- entries may be lent as a `&[Record]`
+abbrev pub entry_shows : Showable Entry
+entry_shows = record { shares = λ 𝓛. (LL.copied T.the_type T'.the_copy 𝓛).shares full_share []; twice = T'.the_row_laws.shr_laws }
 
 -- the place of an entry that is there, in bytes, is a usize; and as the code computes it
 pub place_fits : (n i : ℕ) → Room Entry n → i < n → i * 10 < 2 ^ 64

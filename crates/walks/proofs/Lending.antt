@@ -15,7 +15,7 @@ use types.Kit.{fjoin, fsplit3, fjoin3, feq_i}
 use types.SemTy.{cells, Arr}
 use types.Share.{arr_parts}
 use types.Tokens.{lft_new, lft_end, lent_back}
-use denote.RattleType.{RattleType}
+use denote.RattleType.{RattleType, RowLaws}
 use denote.Shadow.{pure_l, pure_i}
 use denote.Memory.{mem, shares}
 use denote.Ref.{Bor, MutBor}
@@ -23,6 +23,11 @@ use denote.Shares.{Shares}
 use denote.Slice.{slice_val, MutSlice, ShrSlice, heres, Room, finally, mut_slice_at, coded_holeys}
 use denote.Lend.{Held, lends_slice, slice_back, lends_shr_slice}
 use denote.Index.{row, whole_out, whole_in, opens_slice, closes_slice}
+
+-- a T that may be lent as a `&[T]`: it holds no `&mut`, which is what its law of sharing says, and what a `&` to it holds can be had twice
+pub record Showable (R : RattleType) : Type 2 where
+  pub shares : {M : Type 1} {𝓤 : Ura M} (𝓛 : Logic 𝓤) → Shares 𝓛 R []
+  pub twice : RowLaws R
 
 -- The head of the context is the slice and its token, at a list that has n elements; while it is lent, it is
 -- [the call's token; what the callee is handed; the lender's part; Waiting; …]
@@ -93,15 +98,15 @@ module _ {M : Type 1} {𝓤 : Ura M} {𝓛 : Logic 𝓤} {Γ : List (Item 𝓤)}
       use3 𝓛 (later (‵ ((Arr (mem R) (length ys)).own_at zs b o))) (slice_back 𝓛 R (ν ∷ []) δ zs (length ys) b o) $ await ! z $ fsplit ! $ drop ! $
       use1 𝓛 (‵ (row R full_share zs b o)) (whole_out 𝓛 R zs b o) $ shuts ! z R b o ys zs n room long long' $ k)
 
-  -- lent as a `&[T]`, of a T that holds no `&mut`, which is what its law of sharing says
-  pub shows : Go {0} → Soaks G → (R : RattleType) → Shares 𝓛 R [] → {κ : Lft} {q : Share} {γ : GName} (b o : ℕ) (ys : List R.Denot) (n : ℕ) → length ys ≡ n
+  -- lent as a `&[T]`
+  pub shows : Go {0} → Soaks G → (R : RattleType) → Showable R → {κ : Lft} {q : Share} {γ : GName} (b o : ℕ) (ys : List R.Denot) (n : ℕ) → length ys ≡ n
       → ((ν : ℕ)
       → Sq 𝓛 (‵ (flft (ν ∷ []) full_share) ∷ ‵ (Seen R b o (ν ∷ []) n ys) ∷ ‵ (Showing R b o ν ys) ∷ ‵ (Waiting R b o κ q γ ys) ∷ Γ) G)
       → Sq 𝓛 (‵ (Mine R b o κ γ n ys) ∷ ‵ (flft κ q) ∷ Γ) G
-  shows t z R shares_out b o ys n long k =
+  shows t z R showable b o ys n long k =
       opens ! z R b o ys n long (λ room. feq_i ! ℕ (length ys) (length ys) refl $ fjoin ! $ lft_new ! z (λ ν. move ! (1 ∷ 0 ∷ []) $
       use2 𝓛 (later ((‵ (Seen R b o (ν ∷ []) (length ys) ys) ⊛ ‵ (Showing R b o ν ys)) ⊛ ‵ (flft (ν ∷ []) full_share)))
-      (lends_shr_slice 𝓛 R erased (ν ∷ []) full_share ys b o room [] shares_out ((ν ∷ [], full_share) ∷ []) (λ a m. absurd (not-mem-nil m)) (λ a m. m)) $
+      (lends_shr_slice 𝓛 R erased (ν ∷ []) full_share ys b o room [] (showable.shares 𝓛) ((ν ∷ [], full_share) ∷ []) (λ a m. absurd (not-mem-nil m)) (λ a m. m)) $
       await ! z $ split ! $ split ! $
       rewrite ! 0 (λ (m : ℕ). ‵ (Seen R b o (ν ∷ []) m ys)) long refl $ move ! (2 ∷ []) $ k ν))
 

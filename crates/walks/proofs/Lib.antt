@@ -6,3 +6,4 @@ pub mod Parameters
 pub mod Contracts
 pub mod Lending
 pub mod Entries
+pub mod Arrays
