@@ -7,3 +7,5 @@ pub mod Contracts
 pub mod Lending
 pub mod Entries
 pub mod Arrays
+pub mod Values
+pub mod States
