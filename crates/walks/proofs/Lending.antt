@@ -8,7 +8,7 @@ use lib.ListN.{length}
 use seplogic.Ra.Ura.{Ura}
 use base.Fraction.{full_share}
 use mir.Syntax.{erased}
-use base.Fml.{Lft, GName, Share, Fml, fsep, flft, fobs, fauth, flent, fobor}
+use base.Fml.{Lft, GName, Share, Fml, fsep, feq, flft, fobs, fauth, fbor, flent, fobor}
 use types.Logic.{Logic}
 use types.Kit.{Item, ‵, ◌⊛◌, some, later, Go, !, Goal, Soaks, Sq, Step, step, ◌$◌, move, drop, use1, use2, use3, split, pick, rewrite, await, fsplit}
 use types.Kit.{fjoin, fsplit3, fjoin3, feq_i}
@@ -49,6 +49,10 @@ module _ (R : RattleType) (b o : ℕ) where
   abbrev pub Waiting : Lft → Share → GName → List R.Denot → Fml
   Waiting κ q γ ys = fsep (fobor κ q (Held R (length ys) b o γ)) (fsep (fobs γ ((coded_holeys R).code (heres R ys)))
       (fauth γ ((coded_holeys R).code (heres R ys))))
+
+  -- what is said at exit of a `&mut [T]` that was at ys, and its borrow
+  abbrev pub Told : ℕ → GName → List R.Denot → List R.Denot → Fml
+  Told ν δ ys zs = fsep (fsep (finally R δ zs) (feq ℕ (length zs) (length ys))) (fbor (ν ∷ []) (Held R (length ys) b o δ))
 
   -- the lender's part of each loan
   abbrev pub Loan : ℕ → GName → List R.Denot → Fml

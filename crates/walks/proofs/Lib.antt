@@ -9,3 +9,4 @@ pub mod Entries
 pub mod Arrays
 pub mod Values
 pub mod States
+pub mod Arguments
