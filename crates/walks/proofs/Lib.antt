@@ -10,3 +10,4 @@ pub mod Arrays
 pub mod Values
 pub mod States
 pub mod Arguments
+pub mod Lines
