@@ -11,3 +11,4 @@ pub mod Values
 pub mod States
 pub mod Arguments
 pub mod Lines
+pub mod Functions
