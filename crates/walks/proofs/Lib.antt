@@ -12,3 +12,4 @@ pub mod States
 pub mod Arguments
 pub mod Lines
 pub mod Functions
+pub mod Turning
