@@ -13,3 +13,4 @@ pub mod Arguments
 pub mod Lines
 pub mod Functions
 pub mod Turning
+pub mod Reading
