@@ -14,3 +14,6 @@ pub mod Lines
 pub mod Functions
 pub mod Turning
 pub mod Reading
+pub mod Asking
+pub mod Storing
+pub mod Building
