@@ -17,3 +17,4 @@ pub mod Reading
 pub mod Asking
 pub mod Storing
 pub mod Building
+pub mod Copying
