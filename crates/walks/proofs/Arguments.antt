@@ -2,6 +2,7 @@
 -- away for good. First what the laws of lines use of such an argument (`Lent`), then the kinds. A new kind is one more value of `Lent`, in any crate.
 -- Assumes `Logic`.
 use types.Logic.{Logic}
+use denote.RattleType.{RowLaws}
 use denote.Ref.{Bor, MutBor}
 use Rattle.walks.proofs.Prelude.{ℕ, Lft, GName, Share, ftrue, flft, Fml, yes, RattleType, slice_val, Room, nothing, full_share}
 use Rattle.walks.proofs.Prelude.{Ura, length, List, [], ◌∷◌, ◌≡◌, ◌∙◌, Val, ‵, ◌⊛◌, ◌$◌, !, move, split, fsplit, fjoin, drop, feq_l, use1, Sq, Item}
@@ -13,7 +14,7 @@ use denote.Exit.{Last as LastOf, left}
 use denote.Slice.{shr_slice_copy}
 use types.Tokens.{lft_new}
 use Rattle.walks.proofs.Arrays.{Element, Elements, array_back, array_shown, lends_array, shows_array}
-use Rattle.walks.proofs.Lending.{Loan, Mine, Seen, Showable, Showing, Told, Waiting, has_back, lends as lends_slice, shown_back, shows}
+use Rattle.walks.proofs.Lending.{HandedBack, Loan, Mine, Seen, Showable, Showing, Waiting, has_back, lends as lends_slice, shown_back, shows}
 
 pub record Lent : Type 2 where
   -- what the callee's contract has of it, what it binds at exit, and what is new in each loan
@@ -41,8 +42,8 @@ pub record Lent : Type 2 where
       → Sq 𝓛 (‵ (flft (life n) share) ∷ ‵ (settled n x) ∷ ‵ (waits n) ∷ Γ) G
 
 -- ---- slices. A reference is x, as the contract has it
--- a `&[T]`, passed on
-module _ (R : RattleType) (showable : Showable R) (κ : Lft) (q : Share) (x : Bor (List R.Denot)) where
+-- a `&[T]`, passed on. What a `&` to a T holds can be had twice
+module _ (R : RattleType) (laws : RowLaws R) (κ : Lft) (q : Share) (x : Bor (List R.Denot)) where
   abbrev seen : Fml
   seen = Seen R x.ref_ptr.0 x.ref_ptr.1 κ (length x.now) x.now
 
@@ -63,7 +64,7 @@ module _ (R : RattleType) (showable : Showable R) (κ : Lft) (q : Share) (x : Bo
     settled = λ _ _. ftrue;
     Long = λ _. Unit {0};
     lends = λ {M} {𝓤} {𝓛} t z k.
-        fsplit ! $ use1 𝓛 (‵ seen ⊛ ‵ seen) ((shr_slice_copy 𝓛 erased κ R showable.twice).twice x (slice_val x.ref_ptr (length x.now) ∷ [])) $
+        fsplit ! $ use1 𝓛 (‵ seen ⊛ ‵ seen) ((shr_slice_copy 𝓛 erased κ R laws).twice x (slice_val x.ref_ptr (length x.now) ∷ [])) $
         split ! $ move ! (2 ∷ []) $ k tt;
     backs = λ t z n w k. move ! (1 ∷ []) $ drop ! $ move ! (1 ∷ 0 ∷ []) $ fjoin ! $ k tt;
   }
@@ -87,7 +88,7 @@ module _ (R : RattleType) (κ : Lft) (q : Share) (x : MutBor (List R.Denot)) whe
     owned = mine κ x.ghost_name;
     handed = λ n. mine (n.0 ∷ []) n.1 ys;
     waits = λ n. fsep (Loan R x.ref_ptr.0 x.ref_ptr.1 n.0 n.1 ys) (Waiting R x.ref_ptr.0 x.ref_ptr.1 κ q x.ghost_name ys);
-    settled = λ n zs. Told R x.ref_ptr.0 x.ref_ptr.1 n.0 n.1 ys zs;
+    settled = λ n zs. HandedBack R x.ref_ptr.0 x.ref_ptr.1 n.0 n.1 ys zs;
     Long = λ zs. length zs ≡ length x.now;
     lends = λ t z k.
         fsplit ! $ lends_slice ! z R x.ref_ptr.0 x.ref_ptr.1 ys (length x.now) long (λ ν δ. move ! (2 ∷ 3 ∷ []) $ fjoin ! $ move ! (1 ∷ 2 ∷ 0 ∷ []) $ k (ν, δ));
@@ -139,7 +140,7 @@ module _ (T : Element) (b n : ℕ) (room : Room T.type n) (ys : List T.type.Deno
     owned = Elements T b;
     handed = λ m. Mine T.type b 0 (m.0 ∷ []) m.1 n ys;
     waits = λ m. Loan T.type b 0 m.0 m.1 ys;
-    settled = λ m zs. Told T.type b 0 m.0 m.1 ys zs;
+    settled = λ m zs. HandedBack T.type b 0 m.0 m.1 ys zs;
     Long = λ zs. length zs ≡ n;
     lends = λ t z k. fsplit ! $ move ! (1 ∷ []) $ drop ! $ lends_array ! z T b ys n room long (λ ν δ. k (ν, δ));
     backs = λ t z m zs k. move ! (1 ∷ []) $ fsplit ! $ move ! (1 ∷ []) $ drop ! $ fsplit ! $ move ! (1 ∷ []) $ feq_l ! (λ e.

@@ -26,7 +26,7 @@ use denote.Array.{Array, array_val, each, Array-repeat, Array-Lawful}
 use denote.ArrayMemory.{Single, Array-apart, Array-whole}
 use denote.Index.{row, whole_in, whole_out}
 use denote.Laws.{Is, Lawful, Makes, Copy}
-use denote.Plain.{UInt, uint_Lawful, uint_Makes, uint_copy, uint_row_laws}
+use denote.Plain.{UInt, uint_Lawful, uint_Makes, uint_copy}
 use denote.Shadow.{shadow}
 use denote.Struct.Laws as LL
 use denote.Lend.{lends_slice, slice_back, lends_shr_slice}
@@ -40,7 +40,7 @@ use Rattle.walks.proofs.Lending.{Mine, Seen, Loan, Showable, Showing}
 
 -- numbers may be lent as a `&[T]`
 abbrev pub number_shows : (w : Width) → Showable (UInt w)
-number_shows w = record { shares = λ 𝓛. (uint_Copied 𝓛 w).shares full_share []; twice = uint_row_laws w }
+number_shows w = record { shares = λ 𝓛. (uint_Copied 𝓛 w).shares full_share [] }
 
 -- what an array may hold here: `entries`, records; `numbers w`, unsigned numbers
 pub record Element : Type 2 where

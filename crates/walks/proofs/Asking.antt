@@ -17,7 +17,7 @@ use Rattle.paper.specs.declared.Record.{Record}
 use Rattle.paper.specs.Records.{blank_entry}
 use Rattle.walks.proofs.Arguments.{Lent, read, written}
 use Rattle.walks.proofs.Contracts.{contract}
-use Rattle.walks.proofs.Entries.{Entry, EntryTy, entry_shows}
+use Rattle.walks.proofs.Entries.{Entry, EntryTy, entry_twice}
 use Rattle.walks.proofs.Functions as Functions
 use Rattle.walks.proofs.Functions.{Parameter, ends, lends, line, value, walks}
 use Rattle.walks.proofs.Lines.{asks, calls_over_last, local, off, on, relends, val}
@@ -72,7 +72,7 @@ module _ (P : RattleType) (X : Shape) where
   next_ended = line {n = 1} (value (state_value X) ∷ value entry ∷ lends (Functions.written 0 tt P) ∷ []) (state_value X)
 
   abbrev parameters : List (Parameter 2)
-  parameters = lends (Functions.read 0 tt Entry entry_shows) ∷ value (state_value X) ∷ lends (Functions.written 1 tt P) ∷ []
+  parameters = lends (Functions.read 0 tt Entry entry_twice) ∷ value (state_value X) ∷ lends (Functions.written 1 tt P) ∷ []
 
   abbrev pub ended : Ended
   ended = line parameters (state_value X)
@@ -149,7 +149,7 @@ module _ (P : RattleType) (X : Shape) (at_field : Field X) (L : Law P X at_field
       let table_room = s.known.0.0.1 in
       let work_room = s.known.1.1.0.0.1 in
       let x₀ = hand P X s.args.1.0 s.args.1.1.0.now in
-      let Table : Lent = read Entry entry_shows s.lifetimes.0 s.shares.0 s.args.0 in
+      let Table : Lent = read Entry entry_twice s.lifetimes.0 s.shares.0 s.args.0 in
       let Work : (w : List P.Denot) → length w ≡ length x₀.work → Lent =
       written P s.lifetimes.1.0 s.shares.1.0 s.args.1.1.0 work_room in
       let Holds : Hand P X → Type 0 = λ x. Good (state_value X) x.state × ((length x.work ≡ length x₀.work) × L.Before table x₀ x) in

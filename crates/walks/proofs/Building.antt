@@ -2,6 +2,7 @@
 -- the law is of (`Law`), then the parameters, the loop's MIR and the contracts, and the walk: `building_meets`.
 -- Assumes `Logic`.
 use types.Logic.{Logic}
+use denote.Plain.{uint_row_laws}
 use denote.Ref.{Bor, MutBor}
 use Rattle.walks.proofs.Prelude.{ !, ◌$◌, and_then, closing, emp, fact_i, fact, id⊢, length, named, no_more, pointee, refl, slice_ty}
 use Rattle.walks.proofs.Prelude.{◌<◌, ◌≡◌, ◌∷◌, [], u16, u8, w16, w64, w8, ℕ, ty_int, Clauses, Contract, List, Meets, RattleType}
@@ -63,11 +64,11 @@ module _ (P : RattleType) (X : Shape) (storer : Storer) (from_field count_field 
 -- ---- the parameters, of `step` and of the loop
 module _ (P : RattleType) (X : Shape) where
   abbrev step_parameters : List (Parameter 4)
-  step_parameters = value (state_value X) ∷ lends (Functions.read 0 tt u8 (number_shows w8)) ∷ lends (Functions.read 1 tt u16 (number_shows w16)) ∷ lends (Functions.written 2 tt P)
+  step_parameters = value (state_value X) ∷ lends (Functions.read 0 tt u8 (uint_row_laws w8)) ∷ lends (Functions.read 1 tt u16 (uint_row_laws w16)) ∷ lends (Functions.written 2 tt P)
       ∷ lends (Functions.written 3 tt u16) ∷ []
 
   abbrev parameters : List (Parameter 5)
-  parameters = lends (Functions.written 0 tt Entry) ∷ lends (Functions.read 1 tt u8 (number_shows w8)) ∷ lends (Functions.read 2 tt u16 (number_shows w16)) ∷ value (state_value X)
+  parameters = lends (Functions.written 0 tt Entry) ∷ lends (Functions.read 1 tt u8 (uint_row_laws w8)) ∷ lends (Functions.read 2 tt u16 (uint_row_laws w16)) ∷ value (state_value X)
       ∷ lends (Functions.written 3 tt P) ∷ lends (Functions.written 4 tt u16) ∷ []
 
 -- ---- the loop's MIR, at the keys of the two functions that it calls; π is the MIR type of the work's elements
@@ -157,8 +158,8 @@ module _ (P : RattleType) (X : Shape) (storer : Storer) (from_field count_field 
           let lists = s.args.1.1.0.now in
           let x₀ : Hand P X = in_hand s.args in
           let Table : (t : List Record) → length t ≡ length x₀.table → Lent = written Entry s.lifetimes.0 s.shares.0 s.args.0 s.known.0.0.1 in
-          let Input : Lent = read u8 (number_shows w8) s.lifetimes.1.0 s.shares.1.0 s.args.1.0 in
-          let Lists : Lent = read u16 (number_shows w16) s.lifetimes.1.1.0 s.shares.1.1.0 s.args.1.1.0 in
+          let Input : Lent = read u8 (uint_row_laws w8) s.lifetimes.1.0 s.shares.1.0 s.args.1.0 in
+          let Lists : Lent = read u16 (uint_row_laws w16) s.lifetimes.1.1.0 s.shares.1.1.0 s.args.1.1.0 in
           let Work : (w : List P.Denot) → length w ≡ length x₀.work → Lent =
           written P s.lifetimes.1.1.1.0 s.shares.1.1.1.0 s.args.1.1.1.1.0 s.known.1.1.1.1.0.0.1 in
           let Batch : (b : List ℕ) → length b ≡ length x₀.batch → Lent =

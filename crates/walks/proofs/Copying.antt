@@ -15,7 +15,7 @@ use Rattle.walks.proofs.Arguments as Arguments
 use Rattle.walks.proofs.Arguments.{Lent, shown, written}
 use Rattle.walks.proofs.Arrays.{number_shows}
 use Rattle.walks.proofs.Contracts.{contract}
-use Rattle.walks.proofs.Entries.{Entry, EntryTy, entry_shows}
+use Rattle.walks.proofs.Entries.{Entry, EntryTy, entry_twice}
 use Rattle.walks.proofs.Functions as Functions
 use Rattle.walks.proofs.Functions.{Parameter, ends, lends, line, meets, value}
 use Rattle.walks.proofs.Lines.{Arg, asks, calls_last, calls_over, local, none, off, on, relends, val}
@@ -77,7 +77,7 @@ module _ (P : RattleType) (X : Shape) where
   next_parameters = value (state_value X) ∷ value entry_value ∷ lends (Functions.written 0 tt P) ∷ lends (Functions.written 1 tt u16) ∷ []
 
   abbrev parameters : List (Parameter 4)
-  parameters = lends (Functions.read 0 tt Entry entry_shows) ∷ value (state_value X) ∷ lends (Functions.written 1 tt P) ∷ lends (Functions.written 2 tt Entry)
+  parameters = lends (Functions.read 0 tt Entry entry_twice) ∷ value (state_value X) ∷ lends (Functions.written 1 tt P) ∷ lends (Functions.written 2 tt Entry)
       ∷ lends (Functions.written 3 tt u16) ∷ []
 
 -- ---- the loop's MIR, at the keys of the two functions that it calls; π is the MIR type of the work's elements
@@ -171,7 +171,7 @@ module _ (P : RattleType) (X : Shape) (storer : Storer) (at_field from_field cou
           (λ s bs.
           let source = s.args.0.now in
           let x₀ : Hand P X = in_hand s.args in
-          let Source : Lent = Arguments.read Entry entry_shows s.lifetimes.0 s.shares.0 s.args.0 in
+          let Source : Lent = Arguments.read Entry entry_twice s.lifetimes.0 s.shares.0 s.args.0 in
           let Work : (w : List P.Denot) → length w ≡ length x₀.work → Lent =
           written P s.lifetimes.1.0 s.shares.1.0 s.args.1.1.0 s.known.1.1.0.0.1 in
           let Target : (t : List Record) → length t ≡ length x₀.table → Lent =

@@ -14,7 +14,7 @@ use mir.Val.{Val, vptr}
 use base.Fml.{Lft, Share, flft, fhide}
 use types.Logic.{Logic}
 use types.Kit.{Item, ‵, Go, !, Goal, Soaks, Sq, Step, step, ◌$◌, move, drop}
-use denote.RattleType.{RattleType}
+use denote.RattleType.{RattleType, RowLaws}
 use denote.Memory.{mem, shares, cell_at}
 use denote.Laws.{Is, Tells, shows}
 use denote.Opens.{Shut}
@@ -44,9 +44,12 @@ vals = LL.vals T.the_type T'.the_laws
 pub entry_tells : Tells Entry (Is Entry) vals
 entry_tells = LL.tells T.the_type T'.the_laws
 
--- entries may be lent as a `&[Record]`
+-- entries may be lent as a `&[Record]`, and what a `&` to one holds can be had twice
 abbrev pub entry_shows : Showable Entry
-entry_shows = record { shares = λ 𝓛. (LL.copied T.the_type T'.the_copy 𝓛).shares full_share []; twice = T'.the_row_laws.shr_laws }
+entry_shows = record { shares = λ 𝓛. (LL.copied T.the_type T'.the_copy 𝓛).shares full_share [] }
+
+abbrev pub entry_twice : RowLaws Entry
+entry_twice = T'.the_row_laws.shr_laws
 
 -- the place of an entry that is there, in bytes, is a usize; and as the code computes it
 pub place_fits : (n i : ℕ) → Room Entry n → i < n → i * 10 < 2 ^ 64

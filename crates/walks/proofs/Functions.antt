@@ -16,7 +16,7 @@ use contract.Monad.{fact}
 use contract.Running.{Running}
 use denote.Exit.{Last, left}
 use denote.Laws.{Are, Is, Ises, Spells, Tells, Tellss, valss}
-use denote.RattleType.{Denots, flat}
+use denote.RattleType.{Denots, RowLaws, flat}
 use denote.Ref.{mut_Tells, shr_Tells}
 use denote.Signature.{Slot, mut_ref, shr_ref, types_at}
 use denote.Triple.Clauses.{Lasts as Bound, at_exit}
@@ -33,7 +33,6 @@ use prog.Wp.{Calls, Closed, Loops}
 use types.Kit.{Go, Goal}
 use Rattle.walks.proofs.Arguments as Arguments
 use Rattle.walks.proofs.Arguments.{Lent}
-use Rattle.walks.proofs.Lending.{Showable}
 use Rattle.walks.proofs.Lines.{Arg, Asks, Lasts, Longs, Met, asked, asks, back, held, none, off, on, val}
 use Rattle.walks.proofs.Locals.{Blocks, Hold, Params, bare, both_out, enters, env_of, float_in, full, fulls, leaves, locals}
 use Rattle.walks.proofs.Parameters.{by_value, goes_gone, goes_still, gone, lent, shown, still}
@@ -72,12 +71,12 @@ SliceShape n = Unit {0} × (Unit {0} × (Fits w64 n × Unit {0}))
 
 module _ {n : ℕ} (j : ℕ) (ok : Within n j) where
   -- `&'j [R]`
-  abbrev pub read : (R : RattleType) → Showable R → Reference n
-  read R showable = record {
+  abbrev pub read : (R : RattleType) → RowLaws R → Reference n
+  read R laws = record {
     slot = shown j ok R;
     low = λ κs x. slice_val x.ref_ptr (length x.now);
     tells = λ κs. shr_slice_Tells (named j) (lft_at n j ok κs) R;
-    arg = λ κs qs x is. Arguments.read R showable (lft_at n j ok κs) (part_at n j ok qs) x;
+    arg = λ κs qs x is. Arguments.read R laws (lft_at n j ok κs) (part_at n j ok qs) x;
     enters = λ {𝓤 = 𝓤} 𝓛 κs qs x is. id⊢ 𝓤 _;
     stay = stay_none_slice (j ∷ []) ok (by_value R) yes;
     goes = λ {M} {𝓤} 𝓛. Goes-none_slice 𝓛 n (j ∷ []) ok (by_value R) yes;

@@ -15,7 +15,7 @@ use types.Kit.{fjoin, fsplit3, fjoin3, feq_i}
 use types.SemTy.{cells, Arr}
 use types.Share.{arr_parts}
 use types.Tokens.{lft_new, lft_end, lent_back}
-use denote.RattleType.{RattleType, RowLaws}
+use denote.RattleType.{RattleType}
 use denote.Shadow.{pure_l, pure_i}
 use denote.Memory.{mem, shares}
 use denote.Ref.{Bor, MutBor}
@@ -24,10 +24,9 @@ use denote.Slice.{slice_val, MutSlice, ShrSlice, heres, Room, finally, mut_slice
 use denote.Lend.{Held, lends_slice, slice_back, lends_shr_slice}
 use denote.Index.{row, whole_out, whole_in, opens_slice, closes_slice}
 
--- a T that may be lent as a `&[T]`: it holds no `&mut`, which is what its law of sharing says, and what a `&` to it holds can be had twice
+-- a T that may be lent as a `&[T]`: it holds no `&mut`, which is what its law of sharing says
 pub record Showable (R : RattleType) : Type 2 where
   pub shares : {M : Type 1} {𝓤 : Ura M} (𝓛 : Logic 𝓤) → Shares 𝓛 R []
-  pub twice : RowLaws R
 
 -- The head of the context is the slice and its token, at a list that has n elements; while it is lent, it is
 -- [the call's token; what the callee is handed; the lender's part; Waiting; …]
@@ -50,9 +49,9 @@ module _ (R : RattleType) (b o : ℕ) where
   Waiting κ q γ ys = fsep (fobor κ q (Held R (length ys) b o γ)) (fsep (fobs γ ((coded_holeys R).code (heres R ys)))
       (fauth γ ((coded_holeys R).code (heres R ys))))
 
-  -- what is said at exit of a `&mut [T]` that was at ys, and its borrow
-  abbrev pub Told : ℕ → GName → List R.Denot → List R.Denot → Fml
-  Told ν δ ys zs = fsep (fsep (finally R δ zs) (feq ℕ (length zs) (length ys))) (fbor (ν ∷ []) (Held R (length ys) b o δ))
+  -- what a callee leaves of a `&mut [T]` that it was handed at ys: its last list, which is as long, and its borrow, closed
+  abbrev pub HandedBack : ℕ → GName → List R.Denot → List R.Denot → Fml
+  HandedBack ν δ ys zs = fsep (fsep (finally R δ zs) (feq ℕ (length zs) (length ys))) (fbor (ν ∷ []) (Held R (length ys) b o δ))
 
   -- the lender's part of each loan
   abbrev pub Loan : ℕ → GName → List R.Denot → Fml

@@ -18,7 +18,7 @@ use Rattle.paper.specs.Records.{blank_entry}
 use Rattle.paper.specs.contracts.Record as T
 use Rattle.paper.proofs.Record.TheLaws as T'
 use Rattle.walks.proofs.Arguments.{read}
-use Rattle.walks.proofs.Entries.{Entry, EntryTy, entry_back, entry_out, entry_place, entry_shows, looks_table, lowered, place_fits, typed}
+use Rattle.walks.proofs.Entries.{Entry, EntryTy, entry_back, entry_out, entry_place, entry_twice, looks_table, lowered, place_fits, typed}
 use Rattle.walks.proofs.Lines.{Arg, empty, filled, held, off}
 use Rattle.walks.proofs.Steps.{Typed, number_typed, part, rv_is, sets, value}
 use Rattle.walks.proofs.Values.{Good, Value, struct}
@@ -72,8 +72,8 @@ module _ {M : Type 1} {𝓤 : Ura M} {𝓛 : Logic 𝓤} {Γ : List (Item 𝓤)}
       → let Γᶜ = Set 𝓛 E c (copied x n) Γˡ in
       Has 𝓛 E c (copied x n) Γᶜ → Free 𝓛 E r Γᶜ → (spot_of 𝓤 H E r).0 ≡ EntryTy
       → (Good entry (get_or x.now n blank_entry)
-      → Sq 𝓛 (‵ (held (off (read Entry entry_shows κ q x) ∷ xs)) ∷ Set 𝓛 E r (copied x n) Γᶜ) (runs C Λ E rest p))
-      → Sq 𝓛 (‵ (held (off (read Entry entry_shows κ q x) ∷ xs)) ∷ Γ)
+      → Sq 𝓛 (‵ (held (off (read Entry entry_twice κ q x) ∷ xs)) ∷ Set 𝓛 E r (copied x n) Γᶜ) (runs C Λ E rest p))
+      → Sq 𝓛 (‵ (held (off (read Entry entry_twice κ q x) ∷ xs)) ∷ Γ)
       (runs C Λ E (seq (assign (place a []) (op2 (mul unsigned) (copy (place k [])) (int w64 10)))
       (seq (assign (place l []) (op2 offset (copy (place i (field 0 ∷ []))) (copy (place a []))))
       (seq (assign (place c []) (rv_opd (copy (place l (deref EntryTy ∷ []))))) (seq (assign (place r []) (rv_opd (copy (place c [])))) rest)))) p)

@@ -4,12 +4,12 @@
 use Rattle.walks.proofs.Prelude.{◌<◌, ◌≡◌, ◌∙◌, ◌∷◌, [], emp, fact, length, subst, sym, u16, w16, w64, ℕ}
 use Rattle.walks.proofs.Prelude.{Clauses, Contract, List, RattleType, Ura}
 use Rattle.paper.specs.declared.Record.{Record}
-use Rattle.walks.proofs.Arrays.{number_shows}
 use Rattle.walks.proofs.Contracts.{contract}
 use Rattle.walks.proofs.Entries.{Entry}
 use Rattle.walks.proofs.Functions.{Parameter, lends, line, read, value, written}
 use Rattle.walks.proofs.States.{Field, Shape, State}
 use Rattle.walks.proofs.Values.{number, unit}
+use denote.Plain.{uint_row_laws}
 use types.Logic.{Logic}
 
 -- ---- the function that stores
@@ -20,7 +20,7 @@ pub record Storer : Type 0 where
   pub keeps_length : (t : List Record) (from : ℕ) (batch : List ℕ) (count : ℕ) → length (put t from batch count) ≡ length t
 
 abbrev parameters : List (Parameter 2)
-parameters = lends (written 0 tt Entry) ∷ value (number w64) ∷ lends (read 1 tt u16 (number_shows w16)) ∷ value (number w64) ∷ []
+parameters = lends (written 0 tt Entry) ∷ value (number w64) ∷ lends (read 1 tt u16 (uint_row_laws w16)) ∷ value (number w64) ∷ []
 
 module _ (storer : Storer) {M : Type 1} (𝓤 : Ura M) where
   -- it has no `requires`: what it does where the records do not fit, `put` says
