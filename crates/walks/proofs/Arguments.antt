@@ -14,7 +14,8 @@ use denote.Exit.{Last as LastOf, left}
 use denote.Slice.{shr_slice_copy}
 use types.Tokens.{lft_new}
 use Rattle.walks.proofs.Arrays.{Element, Elements, array_back, array_shown, lends_array, shows_array}
-use Rattle.walks.proofs.Lending.{HandedBack, Loan, Mine, Seen, Showable, Showing, Waiting, has_back, lends as lends_slice, shown_back, shows}
+use Rattle.walks.proofs.Lending.{HandedBack, Loan, Mine, Seen, Showable, Showing, Waiting}
+use Rattle.walks.proofs.Lending.{has_back, lends as lends_slice, shown_back, shows}
 
 pub record Lent : Type 2 where
   -- what the callee's contract has of it, what it binds at exit, and what is new in each loan

@@ -129,7 +129,7 @@ module _ (P : RattleType) (X : Shape) (at_field : Field X) (L : Law P X at_field
   Next 𝓛 = contract 𝓛 (next_ended P X) next_clauses
 
 -- ---- the loop's statement, by that of `next`. The table and the work are held throughout; a turn reads the entry, lends the work on, and calls. The
--- proof's own line says `unfolding code.routine tables_of`
+-- proof's own line says `unfolding tables_of`
 module _ (P : RattleType) (X : Shape) (at_field : Field X) (L : Law P X at_field) {M : Type 1} {𝓤 : Ura M} (𝓛 : Logic 𝓤) (𝓜 : Model 𝓤 𝓛.H)
     (𝓡 : Running 𝓤 𝓛.H 𝓜) (π : Ty) (γ : REnv) (k next : Name) where
   open 𝓛 use {H}

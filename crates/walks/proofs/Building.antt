@@ -64,12 +64,12 @@ module _ (P : RattleType) (X : Shape) (storer : Storer) (from_field count_field 
 -- ---- the parameters, of `step` and of the loop
 module _ (P : RattleType) (X : Shape) where
   abbrev step_parameters : List (Parameter 4)
-  step_parameters = value (state_value X) ∷ lends (Functions.read 0 tt u8 (uint_row_laws w8)) ∷ lends (Functions.read 1 tt u16 (uint_row_laws w16)) ∷ lends (Functions.written 2 tt P)
-      ∷ lends (Functions.written 3 tt u16) ∷ []
+  step_parameters = value (state_value X) ∷ lends (Functions.read 0 tt u8 (uint_row_laws w8)) ∷ lends (Functions.read 1 tt u16 (uint_row_laws w16))
+      ∷ lends (Functions.written 2 tt P) ∷ lends (Functions.written 3 tt u16) ∷ []
 
   abbrev parameters : List (Parameter 5)
-  parameters = lends (Functions.written 0 tt Entry) ∷ lends (Functions.read 1 tt u8 (uint_row_laws w8)) ∷ lends (Functions.read 2 tt u16 (uint_row_laws w16)) ∷ value (state_value X)
-      ∷ lends (Functions.written 3 tt P) ∷ lends (Functions.written 4 tt u16) ∷ []
+  parameters = lends (Functions.written 0 tt Entry) ∷ lends (Functions.read 1 tt u8 (uint_row_laws w8))
+      ∷ lends (Functions.read 2 tt u16 (uint_row_laws w16)) ∷ value (state_value X) ∷ lends (Functions.written 3 tt P) ∷ lends (Functions.written 4 tt u16) ∷ []
 
 -- ---- the loop's MIR, at the keys of the two functions that it calls; π is the MIR type of the work's elements
 module _ (P : RattleType) (π : Ty) (X : Shape) (from_field count_field : Field X) (k k' : Name) where

@@ -192,7 +192,9 @@ module _ (P : RattleType) (X : Shape) (storer : Storer) (at_field from_field cou
           let r = entry_at P X storer at_field from_field count_field source x.state in
           let ask = L.asks source x₀ x same ok.1.1 goes in
           reads_field ! X at_field x.state refl refl refl (tt, field_fits X 𝓛 x.state ok.0 at_field) $
-          reads_entry {E = env_of loop_code.locals bs} {i = 1} {k = 7} {a = 12} {l = 13} {c = 14} {r = 8} ! s.args.0 (Others x ok) n s.known.0.0.1 ask.0 refl refl refl refl refl refl refl refl refl refl refl refl refl refl (λ r-good.
+          -- with the locals and their numbers, as in `Asking.antt`
+          reads_entry {E = env_of loop_code.locals bs} {i = 1} {k = 7} {a = 12} {l = 13} {c = 14} {r = 8} ! s.args.0
+          (Others x ok) n s.known.0.0.1 ask.0 refl refl refl refl refl refl refl refl refl refl refl refl refl refl (λ r-good.
           relends ! refl refl refl (tt, tt) refl refl refl (slice_typed s.known.1.1.0.0.1.0) $
           relends ! refl refl refl (tt, tt) refl refl refl (slice_typed s.known.1.1.1.1.0.0.1.0) $
           calls_over ! 𝓣 (off Source ∷ val (state_value X) x.state ok.0 ∷ val entry_value r r-good ∷ on (Work x.work same.1.0)
