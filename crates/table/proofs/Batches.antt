@@ -1,4 +1,5 @@
--- What a batch says, and what `store` leaves of a table: how many records are stored, the records of a batch one by one, and the table.
+-- What a batch says, and what `store` leaves of a table: how many records are stored, the records of a batch one by one, and the table;
+-- last, `store` as the laws of loops that store take it (`storer`).
 use mathlib.Core.Path.{◌≡◌, refl, sym, ap, ◌∙◌, subst}
 use Prim.Native.Nat.{ℕ, zero, suc, ◌+◌, ◌*◌, ◌<◌, ◌≤◌}
 use native.Mathlib.Omega.{arith}
@@ -10,6 +11,7 @@ use lib.Seq.{get_or-drop, length-take-le, paste, paste-zero}
 use borrow.Author.Tests.{leb-true, le-leb, lt-leb}
 use Rattle.paper.specs.declared.Record.{Record}
 use Rattle.paper.specs.Records.{blank_entry}
+use Rattle.walks.proofs.Storing.{Storer}
 use Rattle.table.proofs.Copies.{pasted}
 use Rattle.table.specs.Batch.{record_numbers, record_at, records_in, fits, fitted, stored}
 
@@ -114,3 +116,6 @@ module _ (table : List Record) (from : ℕ) (batch : List ℕ) (count : ℕ) whe
           ≡ cond c (take from table ++ (records_in count batch ++ drop (from + count) table)) table
       go true = pasted table (records_in count batch) from count (length_records count batch)
       go false = sym (paste-zero table from (records_in 0 batch))
+
+abbrev pub storer : Storer
+storer = record { put = stored; keeps_length = length_stored }
