@@ -13,11 +13,11 @@ returns-then-kind-eq-LEAF c =
     let a = c.args in
     let next : a.state.at + 1 + c.body_length.result ≡ after a.input.now a.state.at = ap (λ n. a.state.at + 1 + n) c.body_length.ensures in
     leaf_next _ _ c.requires c.if-state-ge-MOST_NODES.false (subst (λ n. n ≤ length a.input.now) next c.if-input-next.false)
-    c.if-input-at-gt-HIGHEST_LABEL.false _ _ next c.if-kind-eq-LEAF.true c.larger.ensures
+    (omega arith) _ _ next c.if-kind-eq-LEAF.true c.larger.ensures
 
 pub returns : goal.returns
 returns c =
     let a = c.args in
     let next : a.state.at + 1 + c.body_length.result ≡ after a.input.now a.state.at = ap (λ n. a.state.at + 1 + n) c.body_length.ensures in
     branch_next _ _ c.requires c.if-state-ge-MOST_NODES.false (subst (λ n. n ≤ length a.input.now) next c.if-input-next.false)
-    c.if-input-at-gt-HIGHEST_LABEL.false _ next c.if-kind-eq-LEAF.false c.if-state-lt2.false
+    (omega arith) _ next c.if-kind-eq-LEAF.false c.if-state-lt2.false
