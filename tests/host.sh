@@ -1,6 +1,6 @@
 # For the scripts beside it and in examples/, from the repository's root: installs what a host lacks, builds Rust programs for this
 # host, and C and Fortran programs on the library's archive. The kit compiles for x86-64. On an Arm host a C or Fortran program is
-# built for x86-64 too and run under the kit's emulator, as the listing program is, with the libraries of Debian's cross compilers.
+# built for x86-64 too and run under a kit's emulator, where it has one, as the listing program is, with the libraries of Debian's cross compilers.
 
 out=target/tests
 mkdir -p "$out" || exit 2

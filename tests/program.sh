@@ -353,7 +353,7 @@ done
 copy=$(mktemp -d) || exit 2
 trap 'rm -rf "$copy"' EXIT
 mkdir -p "$copy/crates/"{low,other,middle,list,tree} "$copy/bin" && cp list "$copy"
-printf '# rooms\nlow:\nother: low\nmiddle: low io\nlist: middle libc\ntree: middle libc\n' >"$copy/crates.txt"
+printf '# rooms\nlow:\nother: low\nmiddle: low io\nlist: middle\ntree: middle\n' >"$copy/crates.txt"
 # stand_in FILE: a program of these lines
 stand_in() { { echo '#!/bin/sh'; cat; } >"$1" && chmod +x "$1"; }
 echo 'echo x86_64' | stand_in "$copy/bin/uname"
@@ -412,7 +412,7 @@ printf 'printf "\\1"; echo "tree: not written" >&2' | stand_in "$copy/crates/tre
 prints "a program tree that fails" 2 /dev/null in_copy_typed
 same "its words" "$out/said" <(echo "list: $names.tree: tree: not written")
 
-# on an Arm host the kit has an emulator beside rt
+# on an Arm host a kit may have an emulator beside rt
 there=$(readlink -f "$copy")
 beside=$there/on/aarch64/toolchain
 mkdir -p "$beside/bin" && echo 'echo aarch64' | stand_in "$copy/bin/uname"

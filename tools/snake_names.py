@@ -1,12 +1,13 @@
 """Brings this repository's own definitions and lemmas to the spelling of today's Rattle: words in snake case, types and facts in
 upper camel case. It was run once, after the kit's port.py, and is kept so that the renaming can be made again on an older commit:
 
-    python3 tools/snake_names.py [ROOT]
+    python3 tools/snake_names.py [ROOT] [--say]
 
 What it does, in this order: it collects the names that the files of specs/ and proofs/ declare; finds the new spelling of each; finds
-the names that would fall together in one file, and gives the lemma of such a pair the ending `_lem`; then respells each file of
-crates/, and what stands between back quotes in comments and pages. A name that a file takes from a library, and what stands behind
-the name of such a module, keeps its spelling. Functions of src/, exported names, strings and data are not touched.
+the names that would fall together in one file, and gives that of such a pair which had a dash, mostly a lemma, the ending `_lem`; then
+respells each file of crates/, what stands between back quotes in comments and pages, and the names at which the edits of tests/across
+are refused. A name that a file takes from a library, and what stands behind the name of such a module, keeps its spelling. Functions
+of src/, exported names, strings and data are not touched. With --say it only tells which names fall together.
 """
 import collections
 import glob
@@ -43,10 +44,8 @@ def files(*ends):
 
 
 def snake(name):
-    head = name.split('-')[0]
-    parts = name.split('-')
     out = []
-    for part in parts:
+    for part in name.split('-'):
         if part[:1].isupper():
             out.append(part)
         else:
@@ -99,7 +98,7 @@ def kept(text):
     return names, modules
 
 
-def code(line):
+def comment_at(line):
     """Where the comment of a line begins."""
     m = re.search(r'(^|\s)--(\s|$)', line)
     return m.start() if m else len(line)
@@ -152,7 +151,7 @@ def turn(f, table, seen=None):
                     seen.setdefault(m.group(0), set()).add(m.group(0))
             out.append(head + quoted(tail, table))
         else:
-            at = code(line)
+            at = comment_at(line)
             head, tail = line[:at], line[at:]
             head = spell(head, keep, modules, table, seen)
             out.append(head + quoted(tail, table))

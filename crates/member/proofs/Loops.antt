@@ -1,4 +1,4 @@
--- The loops of the covered functions, a turn at a time: entries written one after the other, then the places of a flag, then the
+-- The loops over a row, a turn at a time: entries written one after the other, then the places of a flag, then the
 -- entries of a row.
 use mathlib.Core.Bool.{Bool, ◌&&◌, cond, false, true}
 use mathlib.Core.List.{List}

@@ -1,4 +1,4 @@
--- 'Examples by hand': P1 to P10 and the four examples under them, from the bytes on, as one list with one proof.
+-- 'Examples by hand': P1 to P10 and the four examples under them, from the bytes on, as one list with one proof (proofs/Cases).
 use Rattle.std.specs.Prelude.{Bool, true, false, List, [], ◌∷◌, ◌++◌, ℕ, length}
 use Rattle.paper.specs.Row.{Row, blank}
 use Rattle.paper.specs.Records.{Record, Set, empty, unit, Head, listing}

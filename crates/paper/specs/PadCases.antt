@@ -1,5 +1,5 @@
 -- Request 2026-02, worked cases by hand, beside P1 to P10 and in their words: pads that a rule would mark, label 0 on a branch, a tree
--- that is one pad. First the trees and the queries, then the cases as one list with one proof.
+-- that is one pad. First the trees and the queries, then the cases as one list with one proof (proofs/PadCases).
 use Rattle.std.specs.Prelude.{true, false, List, [], ◌∷◌, ◌++◌, ℕ}
 use Rattle.paper.specs.Records.{empty}
 use Rattle.paper.specs.Refusals.{no_at, refused, answer, build, count, member, project, fix}

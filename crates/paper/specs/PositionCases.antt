@@ -1,4 +1,4 @@
--- Request 2026-04 worked by hand: the position that refusals 1 to 4 carry, as one list with one proof. Tree B has ten bytes and Q has 65, so
+-- Request 2026-04 worked by hand: the position that refusals 1 to 4 carry, as one list with one proof (proofs/PositionCases). Tree B has ten bytes and Q has 65, so
 -- that what is put behind them stands at 75.
 use Rattle.std.specs.Prelude.{List, [], ◌∷◌, ◌++◌, ℕ}
 use Rattle.paper.specs.Refusals.{no_at, refused, build}

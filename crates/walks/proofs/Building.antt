@@ -1,4 +1,4 @@
--- The law of the building loop, for any state (`States.antt`), any covered function `step` and any function that stores (`Storing.antt`). First what
+-- The law of the building loop, for any state (`States.antt`), any function `step` and any function that stores (`Storing.antt`). First what
 -- the law is of (`Law`), then the parameters, the loop's MIR and the contracts, and the walk: `building_meets`.
 -- Assumes `Logic`.
 use types.Logic.{Logic}

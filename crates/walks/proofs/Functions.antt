@@ -105,10 +105,10 @@ module _ {n : ℕ} (j : ℕ) (ok : Within n j) where
   }
 
   -- any of them that is passed on once and for good
-  abbrev handed_on_lem : (s : Slot n) (low : (κs : Lfts n) → (s.row κs).Denot → Val)
+  abbrev given_whole : (s : Slot n) (low : (κs : Lfts n) → (s.row κs).Denot → Val)
       → ((κs : Lfts n) → Tells (s.row κs) (Is (s.row κs)) (λ x. low κs x ∷ [])) → (Shape : (κs : Lfts n) → (s.row κs).Denot → Type 0)
       → ((κs : Lfts n) (x : (s.row κs).Denot) → Is (s.row κs) x (low κs x ∷ []) → Shape κs x) → Reference n
-  handed_on_lem s low tells Shape typed = record {
+  given_whole s low tells Shape typed = record {
     slot = s;
     low = low;
     tells = tells;
@@ -125,19 +125,19 @@ module _ {n : ℕ} (j : ℕ) (ok : Within n j) where
 
   -- `&'j [R]`, `&'j mut [R]`, `&'j R` and `&'j mut R`
   abbrev pub given_read : RattleType → Reference n
-  given_read R = handed_on_lem (shown j ok R) (λ κs x. slice_val x.ref_ptr (length x.now)) (λ κs. shr_slice_Tells (named j) (lft_at n j ok κs) R)
+  given_read R = given_whole (shown j ok R) (λ κs x. slice_val x.ref_ptr (length x.now)) (λ κs. shr_slice_Tells (named j) (lft_at n j ok κs) R)
       (λ κs x. SliceShape (length x.now)) (λ κs x is. (tt, (tt, (record { fits = is.0.1.0 }, tt))))
 
   abbrev pub given_written : RattleType → Reference n
-  given_written R = handed_on_lem (lent j ok R) (λ κs x. slice_val x.ref_ptr (length x.now)) (λ κs. mut_slice_Tells (named j) (lft_at n j ok κs) R)
+  given_written R = given_whole (lent j ok R) (λ κs x. slice_val x.ref_ptr (length x.now)) (λ κs. mut_slice_Tells (named j) (lft_at n j ok κs) R)
       (λ κs x. SliceShape (length x.now)) (λ κs x is. (tt, (tt, (record { fits = is.0.1.0 }, tt))))
 
   abbrev pub given_reference : RattleType → Reference n
-  given_reference R = handed_on_lem (shr_ref j ok (λ _. R)) (λ κs x. vptr x.ref_ptr.0 x.ref_ptr.1) (λ κs. shr_Tells (named j) (lft_at n j ok κs) R)
+  given_reference R = given_whole (shr_ref j ok (λ _. R)) (λ κs x. vptr x.ref_ptr.0 x.ref_ptr.1) (λ κs. shr_Tells (named j) (lft_at n j ok κs) R)
       (λ κs x. Unit {0} × Unit {0}) (λ κs x is. (tt, tt))
 
   abbrev pub given_output : RattleType → Reference n
-  given_output R = handed_on_lem (mut_ref j ok (λ _. R)) (λ κs x. vptr x.ref_ptr.0 x.ref_ptr.1) (λ κs. mut_Tells (named j) (lft_at n j ok κs) R)
+  given_output R = given_whole (mut_ref j ok (λ _. R)) (λ κs x. vptr x.ref_ptr.0 x.ref_ptr.1) (λ κs. mut_Tells (named j) (lft_at n j ok κs) R)
       (λ κs x. Unit {0} × Unit {0}) (λ κs x is. (tt, tt))
 
 -- ---- all parameters

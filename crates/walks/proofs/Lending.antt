@@ -34,15 +34,15 @@ module _ (R : RattleType) (b o : ℕ) where
   abbrev pub at_list : GName → List R.Denot → MutBor (List R.Denot)
   at_list γ ys = record { ref_ptr = (b, o); ghost_name = γ; now = ys }
 
-  abbrev pub shr_list : List R.Denot → Bor (List R.Denot)
-  shr_list ys = record { ref_ptr = (b, o); now = ys }
+  abbrev pub seen_list : List R.Denot → Bor (List R.Denot)
+  seen_list ys = record { ref_ptr = (b, o); now = ys }
 
   -- what a `&mut [T]` of n elements owns, and a `&[T]`. It does not name the lifetime as MIR does
   abbrev pub Mine : Lft → GName → ℕ → List R.Denot → Fml
   Mine κ γ n ys = (MutSlice erased κ R).own_val (at_list γ ys) (slice_val (b, o) n ∷ [])
 
   abbrev pub Seen : Lft → ℕ → List R.Denot → Fml
-  Seen κ n ys = (ShrSlice erased κ R).own_val (shr_list ys) (slice_val (b, o) n ∷ [])
+  Seen κ n ys = (ShrSlice erased κ R).own_val (seen_list ys) (slice_val (b, o) n ∷ [])
 
   -- what the holder keeps meanwhile: its own borrow, open, at the list that it had
   abbrev pub Waiting : Lft → Share → GName → List R.Denot → Fml

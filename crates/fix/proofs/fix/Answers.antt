@@ -1,4 +1,4 @@
--- `fix`, from the contracts of its seven calls (`Facing`).
+-- `fix`, from the contracts of its eight calls (`Facing`).
 use Rattle.std.proofs.Common.{arith}
 use Rattle.fix.proofs.Facing.{face, may_finish, may_image, may_record}
 use Rattle.fix.proofs.fix.Goals as goal
