@@ -26,7 +26,7 @@ pub frame_at-to-requires-clause-frame_le_most_frames : goal.frame_at-to-requires
 frame_at-to-requires-clause-frame_le_most_frames c = omega (arith, standing_ready c.requires.1)
 
 pub frame_width-requires : goal.frame_width-requires
-frame_width-requires c = let r = standing_ready c.requires.1 in (r.arity, r.states)
+frame_width-requires c = let r = standing_ready c.requires.1 in (r.arity, omega (arith, r.states))
 
 pub copy_down-requires : goal.copy_down-requires
 copy_down-requires c =

@@ -81,19 +81,6 @@ overflow_sub-rule c =
     let r = l.invariant c.requires.filling.0.0 c.requires.filling.0.1 in
     rule_behind c.args.input.now (more c.args.t l.count l.rule) l.work _ r.standing c.loop-rule-test.true c.requires.filling.1
 
-pub loop-rule-smaller : goal.loop-rule-smaller
-loop-rule-smaller c =
-    let f = c.requires.filling.0.1 in
-    let r = c.loop-rule.invariant _ f in
-    elim c.if-can_stand.branch [
-      | then-can_stand w ↦
-          (onward r c.loop-rule-test.true c.requires.rule_in_bounds.1 f c.requires.filling.1 c.rule_after-rule.ensures c.can_stand.ensures
-          w.if-can_stand.true w.leaf_rule-count.auto.work w.shelf_at-to.ensures w.leaf_rule-count.ensures).fewer
-      | else-can_stand w ↦
-          (passed r c.loop-rule-test.true c.requires.rule_in_bounds.1 f c.requires.filling.1 c.rule_after-rule.ensures c.can_stand.ensures
-          w.if-can_stand.false).fewer
-    ]
-
 pub loop-rule-preserved : goal.loop-rule-preserved
 loop-rule-preserved c base f =
     let a = c.args in
@@ -111,6 +98,19 @@ loop-rule-preserved c base f =
           (passed r c.loop-rule-test.true c.requires.rule_in_bounds.1 f c.requires.filling.1 c.rule_after-rule.ensures c.can_stand.ensures
           w.if-can_stand.false)
     ])
+
+pub loop-rule-smaller : goal.loop-rule-smaller
+loop-rule-smaller c =
+    let f = c.requires.filling.0.1 in
+    let r = c.loop-rule.invariant _ f in
+    elim c.if-can_stand.branch [
+      | then-can_stand w ↦
+          (onward r c.loop-rule-test.true c.requires.rule_in_bounds.1 f c.requires.filling.1 c.rule_after-rule.ensures c.can_stand.ensures
+          w.if-can_stand.true w.leaf_rule-count.auto.work w.shelf_at-to.ensures w.leaf_rule-count.ensures).fewer
+      | else-can_stand w ↦
+          (passed r c.loop-rule-test.true c.requires.rule_in_bounds.1 f c.requires.filling.1 c.rule_after-rule.ensures c.can_stand.ensures
+          w.if-can_stand.false).fewer
+    ]
 
 pub returns : goal.returns
 returns c base f =

@@ -10,7 +10,7 @@ pub frame_at-from-requires-clause-frame_le_most_frames : goal.frame_at-from-requ
 frame_at-from-requires-clause-frame_le_most_frames c = let r = coming_ready _ _ _ _ c.requires.0.1 in omega (arith, r.frames)
 
 pub frame_width-requires : goal.frame_width-requires
-frame_width-requires c = let r = coming_ready _ _ _ _ c.requires.0.1 in (r.arity, r.states)
+frame_width-requires c = let r = coming_ready _ _ _ _ c.requires.0.1 in (r.arity, omega (arith, r.states))
 
 pub clear-requires : goal.clear-requires
 clear-requires c = let r = coming_ready _ _ _ _ c.requires.0.1 in omega (arith, r.frame, c.frame_at-from.ensures, c.frame_width.ensures)

@@ -53,7 +53,7 @@ union-requires-clause-flag_lt_most_flags c =
 pub union-requires-clause-left_bound : goal.union-requires-clause-left_bound
 union-requires-clause-left_bound c =
     let slot = (ready _ _ _ _ c.requires.stands_listed.0 c.requires.state_lt_states.0).slot c.shelf_at.ensures c.flags-places.ensures in
-    (c.requires.count_le_count.2, omega (arith, slot.1, c.requires.count_le_count.0))
+    (omega (arith, slot.1, c.requires.count_le_count.0), omega (arith, slot.1, c.requires.count_le_count.0))
 
 pub returns : goal.returns
 returns c =

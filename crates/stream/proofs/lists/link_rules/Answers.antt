@@ -1,5 +1,5 @@
 -- A turn puts one more record's rule behind the last one of its symbol, and its accepting state in; behind the last record all is told.
-use Rattle.std.proofs.Common.{◌+◌, ◌≤◌, length, ◌∙◌, ap, subst, arith}
+use Rattle.std.proofs.Common.{◌+◌, ◌<◌, ◌≤◌, length, ◌∙◌, ap, subst, arith}
 use Rattle.stream.proofs.AcceptingBits.{accepted_all, accepted_more, accepted_none}
 use Rattle.stream.proofs.Linking.{Going, cell_room, goes_on, goes_past, going_behind, going_ends, going_starts, last_before}
 use Rattle.stream.proofs.lists.link_rules.Goals as goal
@@ -20,26 +20,29 @@ overflow_sub-at c = going_behind _ _ _ _ _ _ c.loop-at.invariant.0
 pub add_rule-requires-clause-symbol_in_bounds : goal.add_rule-requires-clause-symbol_in_bounds
 add_rule-requires-clause-symbol_in_bounds c =
     let k = c.loop-at.invariant.0 in
-    let before = last_before _ _ _ _ _ _ k c.loop-at-test.true c.symbol_at-symbol.result c.if-symbol-lt-SYMBOLS.true in
-    (omega (arith, k.long), omega (arith, before, cell_room _ _ _ _ _ _ k c.loop-at-test.true c.requires.room))
+    let here : c.loop-at.at < length c.args.input.now = omega arith in
+    let before = last_before _ _ _ _ _ _ k here c.symbol_at-symbol.result c.if-symbol-lt-SYMBOLS.true in
+    (omega (arith, k.long), omega (arith, before, cell_room _ _ _ _ _ _ k here c.requires.room))
 
 pub add_rule-requires-clause-cell_in_bounds : goal.add_rule-requires-clause-cell_in_bounds
 add_rule-requires-clause-cell_in_bounds c =
-    (omega (arith, cell_room _ _ _ _ _ _ c.loop-at.invariant.0 c.loop-at-test.true c.requires.room), omega arith)
+    let here : c.loop-at.at < length c.args.input.now = omega arith in
+    (omega (arith, cell_room _ _ _ _ _ _ c.loop-at.invariant.0 here c.requires.room), omega arith)
 
 pub loop-at-preserved : goal.loop-at-preserved
 loop-at-preserved c =
     let k = c.loop-at.invariant in
+    let here : c.loop-at.at < length c.args.input.now = omega arith in
     let past = ap (λ n. c.loop-at.at + 1 + n) c.body_length.ensures in (
       elim c.if-symbol-lt-SYMBOLS.branch [
         | then-symbol-lt-SYMBOLS w ↦
-            goes_on _ _ _ _ _ _ k.0 c.loop-at-test.true _ _ c.symbol_at-symbol.ensures past c.requires.room w.if-symbol-lt-SYMBOLS.true _ _ _
+            goes_on _ _ _ _ _ _ k.0 here _ _ c.symbol_at-symbol.ensures past c.requires.room w.if-symbol-lt-SYMBOLS.true _ _ _
             w.cell_of-cell.ensures (w.lists-is ∙ w.add_rule.ensures.lists_after) (w.last-is ∙ w.add_rule.ensures.last_after)
         | else-symbol-lt-SYMBOLS w ↦
             rw (w.lists-is, w.last-is)
-            (goes_past _ _ _ _ _ _ k.0 c.loop-at-test.true _ _ c.symbol_at-symbol.ensures past w.if-symbol-lt-SYMBOLS.false)
+            (goes_past _ _ _ _ _ _ k.0 here _ _ c.symbol_at-symbol.ensures past w.if-symbol-lt-SYMBOLS.false)
       ],
-      accepted_more _ _ _ _ k.1 _ _ c.loop-at-test.true past c.with_state-accepting.ensures,
+      accepted_more _ _ _ _ k.1 _ _ here past c.with_state-accepting.ensures,
     )
 
 pub returns : goal.returns
