@@ -28,10 +28,6 @@ frame_at-to-requires-clause-frame_le_most_frames c = omega (arith, standing_read
 pub frame_width-requires : goal.frame_width-requires
 frame_width-requires c = let r = standing_ready c.requires.1 in (r.arity, omega (arith, r.states))
 
-pub copy_down-requires : goal.copy_down-requires
-copy_down-requires c =
-    join_room _ _ _ _ c.requires.1 c.if-input-at-eq-LEAF.false c.frame_at-from.ensures c.frame_at-to.ensures c.frame_width.ensures
-
 pub overflow_sub-result : goal.overflow_sub-result
 overflow_sub-result c = omega (arith, two_below _ _ _ _ c.requires.1 c.if-input-at-eq-LEAF.false)
 
@@ -39,3 +35,7 @@ pub returns : goal.returns
 returns c made s =
     branch_joined _ _ _ made s c.if-input-at-eq-LEAF.false c.frame_at-from.ensures c.frame_at-to.ensures c.frame_width.ensures
     c.copy_down.ensures
+
+pub copy_down-requires : goal.copy_down-requires
+copy_down-requires c =
+    join_room _ _ _ _ c.requires.1 c.if-input-at-eq-LEAF.false c.frame_at-from.ensures c.frame_at-to.ensures c.frame_width.ensures
