@@ -35,9 +35,9 @@ use Rattle.building.proofs.Present.{most_nodes_lem}
 use Rattle.building.proofs.ReadInput.{few_states, query_part_passes, small_arity, tree_passes}
 
 -- ---- refusals
-module _ (input : List ℕ) (work_length tableLength : ℕ) where
+module _ (input : List ℕ) (work_length table_length : ℕ) where
   -- of the tree
-  pub tree_refused : {n : No} → refused n ≡ tree_reply input → (build input work_length tableLength ≡ refused n) × (number_in n ≤ 5)
+  pub tree_refused : {n : No} → refused n ≡ tree_reply input → (build input work_length table_length ≡ refused n) × (number_in n ≤ 5)
   tree_refused e = (
     refused_append (tree_part (tree_records (records_of input))) _ (tree_facts input) (head_from input, made_from input) (sym e),
     omega (arith, says_refused (λ w. number_in w ≤ 2) (tree_part (tree_records (records_of input))) (tree_facts input) (tree_says (tree_records (records_of input))) (sym e)),
@@ -45,7 +45,7 @@ module _ (input : List ℕ) (work_length tableLength : ℕ) where
 
   module _ (tree : Passes (tree_part (tree_records (records_of input)))) where
     -- of the query
-    query_refused : {n : No} → refused n ≡ query_reply input (2 * nodes_in input) → (build input work_length tableLength ≡ refused n) × (number_in n ≤ 5)
+    query_refused : {n : No} → refused n ≡ query_reply input (2 * nodes_in input) → (build input work_length table_length ≡ refused n) × (number_in n ≤ 5)
     query_refused {n} e = (
       unless_append (tree_part (tree_records (records_of input))) _ (head_from input, made_from input) tree
           ∙ refused_append tests _ (query_facts input (2 * nodes_in input)) (head_from input, made_from input) reply,
@@ -59,7 +59,7 @@ module _ (input : List ℕ) (work_length tableLength : ℕ) where
         reply = sym (reply_after_tree input tree) ∙ sym e
 
     -- of the work
-    work_refused : Passes (query_part (tree_end input) (query_records (records_of input))) → work_length < work_for input → build input work_length tableLength ≡ refused (no 5)
+    work_refused : Passes (query_part (tree_end input) (query_records (records_of input))) → work_length < work_for input → build input work_length table_length ≡ refused (no 5)
     work_refused query short =
         unless_append (tree_part (tree_records (records_of input))) _ (head_from input, made_from input) tree
         ∙ unless_append (query_part (tree_end input) (query_records (records_of input))) _ (head_from input, made_from input) query
@@ -101,10 +101,10 @@ read_facts input tree query e e' = record {
     query_is = (answered (query_part (2 * nodes_in input) (records_of (drop (2 * nodes_in input) input))) (sym here)).1
 
 -- a query behind a tree that is answered
-pub query_refused_at : (input : List ℕ) (work_length tableLength : ℕ) {tree : TreeFacts} {n : No} → answer tree ≡ tree_reply input
-    → refused n ≡ query_reply input tree.end → (build input work_length tableLength ≡ refused n) × (number_in n ≤ 5)
-query_refused_at input work_length tableLength {tree} e e' =
-    query_refused input work_length tableLength (answered (tree_part (tree_records (records_of input))) (sym e)).0
+pub query_refused_at : (input : List ℕ) (work_length table_length : ℕ) {tree : TreeFacts} {n : No} → answer tree ≡ tree_reply input
+    → refused n ≡ query_reply input tree.end → (build input work_length table_length ≡ refused n) × (number_in n ≤ 5)
+query_refused_at input work_length table_length {tree} e e' =
+    query_refused input work_length table_length (answered (tree_part (tree_records (records_of input))) (sym e)).0
     (e' ∙ ap (query_reply input) (tree_end_lem input tree e))
 
 module _ (input : List ℕ) (tree : TreeFacts) (query : QueryFacts) (f : ReadFacts input tree query) where
@@ -160,10 +160,10 @@ module _ (input : List ℕ) (tree : TreeFacts) (query : QueryFacts) (f : ReadFac
       }
 
   -- too short
-  pub short_work : (work : List ℕ) (tableLength : ℕ) {n : ℕ} → n ≡ width query.arity query.states → length work < (1 + tree.most) * n
-      → build input (length work) tableLength ≡ refused (no 5)
-  short_work work tableLength e h =
-      work_refused input (length work) tableLength passes (query_part_passes input f.query_reply_lem passes) (omega (arith, asked_is e))
+  pub short_work : (work : List ℕ) (table_length : ℕ) {n : ℕ} → n ≡ width query.arity query.states → length work < (1 + tree.most) * n
+      → build input (length work) table_length ≡ refused (no 5)
+  short_work work table_length e h =
+      work_refused input (length work) table_length passes (query_part_passes input f.query_reply_lem passes) (omega (arith, asked_is e))
 
   -- the first node
   first_node : (node at top : ℕ) → node ≡ 0 → at ≡ 0 → top ≡ 0 → (records : List StreamRecord) → tree_records (records_of input) ≡ records

@@ -156,13 +156,13 @@ module _ (Q : Query) (records : List StreamRecord) (p : Passes (tree_part record
 
 -- ---- the refusal
 -- a stream that is fine, with work enough, is refused with 6 where more records than fit are made, at the end or before
-pub grows_refused : (input : List ℕ) (work_length tableLength : ℕ) → Passes (tree_part (tree_records (records_of input)))
+pub grows_refused : (input : List ℕ) (work_length table_length : ℕ) → Passes (tree_part (tree_records (records_of input)))
     → Passes (query_part (tree_end input) (query_records (records_of input))) → work_for input ≤ work_length
-    → {s : List Record} → Grows s (made_from input) → min tableLength most_records < length s → build input work_length tableLength ≡ refused (no 6)
-grows_refused input work_length tableLength tree query work g many =
+    → {s : List Record} → Grows s (made_from input) → min table_length most_records < length s → build input work_length table_length ≡ refused (no 6)
+grows_refused input work_length table_length tree query work g many =
     unless_append (tree_part (tree_records (records_of input))) (query_part (tree_end input) (query_records (records_of input)) ++ room) built tree
     ∙ unless_append (query_part (tree_end input) (query_records (records_of input))) room built query
-    ∙ rw (le-leb (work_for input) work_length work) (go (leb used tableLength) (leb used most_records) refl refl)
+    ∙ rw (le-leb (work_for input) work_length work) (go (leb used table_length) (leb used most_records) refl refl)
   where
     built : Head × List Record
     built = (head_from input, made_from input)
@@ -171,10 +171,10 @@ grows_refused input work_length tableLength tree query work g many =
     used = length (made_from input)
 
     room : List Test
-    room = (no 5, leb (work_for input) work_length) ∷ (no 6, leb used tableLength && leb used most_records) ∷ []
+    room = (no 5, leb (work_for input) work_length) ∷ (no 6, leb used table_length && leb used most_records) ∷ []
 
-    go : (c d : Bool) → leb used tableLength ≡ c → leb used most_records ≡ d → cond (c && d) (answer built) (refused (no 6)) ≡ refused (no 6)
+    go : (c d : Bool) → leb used table_length ≡ c → leb used most_records ≡ d → cond (c && d) (answer built) (refused (no 6)) ≡ refused (no 6)
     go true true e k =
-        absurd (omega (arith, leb-true used tableLength e, leb-true used most_records k, grows_past g (min tableLength most_records) many))
+        absurd (omega (arith, leb-true used table_length e, leb-true used most_records k, grows_past g (min table_length most_records) many))
     go true false e k = refl
     go false d e k = refl

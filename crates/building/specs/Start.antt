@@ -10,14 +10,14 @@ use Rattle.building.specs.declared.start.Begun.TheVariants as BegunIs
 
 -- the building stands at its first node, with no record made, and the rules are listed; the work behind the part that is asked for is as
 -- it was
-pub record Started (input work : List ℕ) (tableLength : ℕ) (t : State) (work' lists : List ℕ) : Type 0 where
+pub record Started (input work : List ℕ) (table_length : ℕ) (t : State) (work' lists : List ℕ) : Type 0 where
   pub standing : Standing input t work' []
   pub listed : Listed input lists
-  pub limit : t.limit ≡ min tableLength most_records
+  pub limit : t.limit ≡ min table_length most_records
   pub rest : drop t.asked work' ≡ drop t.asked work
 
 -- or it is refused with 1 to 5, and the work is as it was
 abbrev pub Begins : List ℕ → List ℕ → ℕ → Begun → List ℕ → List ℕ → Type 0
-Begins input work tableLength (BegunIs.Going t) work' lists = Started input work tableLength t work' lists
-Begins input work tableLength (BegunIs.Refused why) work' lists =
-    (build input (length work) tableLength ≡ refused (no_of_stream why)) × (number_in (no_of_stream why) ≤ 5) × (work' ≡ work)
+Begins input work table_length (BegunIs.Going t) work' lists = Started input work table_length t work' lists
+Begins input work table_length (BegunIs.Refused why) work' lists =
+    (build input (length work) table_length ≡ refused (no_of_stream why)) × (number_in (no_of_stream why) ≤ 5) × (work' ≡ work)

@@ -36,7 +36,7 @@ use Rattle.laws.proofs.Replies.{Passes, answered, passes_left, passes_right}
 use Rattle.laws.proofs.SoundAnswers.{sound_says}
 
 -- ---- the set that a build makes, where its tests pass
-module _ (input : List ℕ) (work_length tableLength : ℕ) (passes : Passes (build_tests input work_length tableLength)) where
+module _ (input : List ℕ) (work_length table_length : ℕ) (passes : Passes (build_tests input work_length table_length)) where
   abbrev tree_part_in : List StreamRecord
   tree_part_in = tree_records (records_of input)
 
@@ -46,7 +46,7 @@ module _ (input : List ℕ) (work_length tableLength : ℕ) (passes : Passes (bu
   abbrev last_tests : List Test
   last_tests =
       (no 5, leb (work_for input) work_length)
-      ∷ (no 6, leb (length (made_from input)) tableLength && leb (length (made_from input)) 60000)
+      ∷ (no 6, leb (length (made_from input)) table_length && leb (length (made_from input)) 60000)
       ∷ []
 
   abbrev arity : ℕ
@@ -64,9 +64,9 @@ module _ (input : List ℕ) (work_length tableLength : ℕ) (passes : Passes (bu
   pub read_query : ReadQuery (query_in input)
   read_query = query_read (tree_end input) query_part_in (passes_left (query_part (tree_end input) query_part_in) last_tests later_passes)
 
-  room : (leb (length (made_from input)) tableLength ≡ true) × (leb (length (made_from input)) 60000 ≡ true)
+  room : (leb (length (made_from input)) table_length ≡ true) × (leb (length (made_from input)) 60000 ≡ true)
   room =
-      both_true (leb (length (made_from input)) tableLength) (leb (length (made_from input)) 60000)
+      both_true (leb (length (made_from input)) table_length) (leb (length (made_from input)) 60000)
       (passes_right (query_part (tree_end input) query_part_in) last_tests later_passes).1.0
 
   pub built_head : (table : List Record) → HeadOver (head_from input) (over (made_from input) table) (made_from input) (answer_rows (query_in input) (tree_in input))

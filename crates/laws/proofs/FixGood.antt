@@ -181,10 +181,10 @@ module _ (h : Head) (table : List Record) (G : GoodSet h table) (place n : ℕ) 
           (wanted_of r.flag L) (wanted_of r.flag T) once (stand r.left e.1 e.3) (stand r.right e.2 e.4) u.left u.right
 
   -- with work and a target as the paper asks the call is accepted
-  pub fix_accepted : (work_length targetLength : ℕ) → question_work h ≤ work_length → h.used ≤ targetLength
-      → fix h table work_length place n targetLength ≡ answer (fixed_set h table place n)
-  fix_accepted work_length targetLength work target =
-      answers (fix_tests h table work_length place n targetLength) (fixed_set h table place n) (
+  pub fix_accepted : (work_length target_length : ℕ) → question_work h ≤ work_length → h.used ≤ target_length
+      → fix h table work_length place n target_length ≡ answer (fixed_set h table place n)
+  fix_accepted work_length target_length work target =
+      answers (fix_tests h table work_length place n target_length) (fixed_set h table place n) (
         le-leb (question_work h) work_length work,
         (
           is_sound h table G.sound,
@@ -193,7 +193,7 @@ module _ (h : Head) (table : List Record) (G : GoodSet h table) (place n : ℕ) 
             (
               lt-ltb n h.nodes node,
               (
-                le-leb h.used targetLength target,
+                le-leb h.used target_length target,
                 (
                   passes_if_not (unit_twice_cause h table place n) never_unit_twice,
                   tt,

@@ -125,20 +125,20 @@ module _ (h : Head) (table : List Record) (work_length : ℕ) where
   count_answers = answers_none (count_of h table) count_fits
 
   -- row by number
-  module _ (k outLength : ℕ) where
-    pub row_by_number_fits : Fits (NumberCause h table work_length k outLength) (row_tests h table work_length k outLength) question_order
+  module _ (k out_length : ℕ) where
+    pub row_by_number_fits : Fits (NumberCause h table work_length k out_length) (row_tests h table work_length k out_length) question_order
     row_by_number_fits =
         fits question_order
-        (more_causes ask_causes (more_causes (one_cause 9 (fails_below k (count_of h table))) (one_cause 10 (fails_at_most h.arity outLength))))
+        (more_causes ask_causes (more_causes (one_cause 9 (fails_below k (count_of h table))) (one_cause 10 (fails_at_most h.arity out_length))))
         refl refl
 
     pub row_by_number_refused : (w : No)
-        → (row_by_number h table work_length k outLength ≡ refused w) ↔ Alone (FirstOf question_order (NumberCause h table work_length k outLength)) w
+        → (row_by_number h table work_length k out_length ≡ refused w) ↔ Alone (FirstOf question_order (NumberCause h table work_length k out_length)) w
     row_by_number_refused = refused_first (row_numbered h table k) row_by_number_fits
 
     pub row_by_number_answers :
-        (row_by_number h table work_length k outLength ≡ answer (row_numbered h table k))
-        ↔ NoneOf question_order (NumberCause h table work_length k outLength)
+        (row_by_number h table work_length k out_length ≡ answer (row_numbered h table k))
+        ↔ NoneOf question_order (NumberCause h table work_length k out_length)
     row_by_number_answers = answers_none (row_numbered h table k) row_by_number_fits
 
   -- member
@@ -157,38 +157,38 @@ module _ (h : Head) (table : List Record) (work_length : ℕ) where
     member_answers = answers_none (is_listed (listing h table) row) member_fits
 
   -- project
-  module _ (place outLength : ℕ) where
-    pub project_fits : Fits (ProjectCause h table work_length place outLength) (project_tests h table work_length place outLength) question_order
+  module _ (place out_length : ℕ) where
+    pub project_fits : Fits (ProjectCause h table work_length place out_length) (project_tests h table work_length place out_length) question_order
     project_fits =
         fits question_order
-        (more_causes ask_causes (more_causes (one_cause 7 (place_cause h place)) (one_cause 10 (fails_at_most h.nodes outLength))))
+        (more_causes ask_causes (more_causes (one_cause 7 (place_cause h place)) (one_cause 10 (fails_at_most h.nodes out_length))))
         refl refl
 
     pub project_refused : (w : No)
-        → (project h table work_length place outLength ≡ refused w) ↔ Alone (FirstOf question_order (ProjectCause h table work_length place outLength)) w
+        → (project h table work_length place out_length ≡ refused w) ↔ Alone (FirstOf question_order (ProjectCause h table work_length place out_length)) w
     project_refused = refused_first (marks_of h table place) project_fits
 
     pub project_answers :
-        (project h table work_length place outLength ≡ answer (marks_of h table place))
-        ↔ NoneOf question_order (ProjectCause h table work_length place outLength)
+        (project h table work_length place out_length ≡ answer (marks_of h table place))
+        ↔ NoneOf question_order (ProjectCause h table work_length place out_length)
     project_answers = answers_none (marks_of h table place) project_fits
 
   -- fix
-  module _ (place node targetLength : ℕ) where
-    pub fix_fits : Fits (FixCause h table work_length place node targetLength) (fix_tests h table work_length place node targetLength) question_order
+  module _ (place node target_length : ℕ) where
+    pub fix_fits : Fits (FixCause h table work_length place node target_length) (fix_tests h table work_length place node target_length) question_order
     fix_fits =
         fits question_order
         (more_causes ask_causes
         (more_causes (one_cause 7 (place_cause h place))
         (more_causes (one_cause 8 (fails_below node h.nodes))
-        (more_causes (one_cause 6 (fails_at_most h.used targetLength)) (one_cause 12 (unit_twice_cause h table place node))))))
+        (more_causes (one_cause 6 (fails_at_most h.used target_length)) (one_cause 12 (unit_twice_cause h table place node))))))
         refl refl
 
     pub fix_refused : (w : No)
-        → (fix h table work_length place node targetLength ≡ refused w) ↔ Alone (FirstOf question_order (FixCause h table work_length place node targetLength)) w
+        → (fix h table work_length place node target_length ≡ refused w) ↔ Alone (FirstOf question_order (FixCause h table work_length place node target_length)) w
     fix_refused = refused_first (fixed_set h table place node) fix_fits
 
     pub fix_answers :
-        (fix h table work_length place node targetLength ≡ answer (fixed_set h table place node))
-        ↔ NoneOf question_order (FixCause h table work_length place node targetLength)
+        (fix h table work_length place node target_length ≡ answer (fixed_set h table place node))
+        ↔ NoneOf question_order (FixCause h table work_length place node target_length)
     fix_answers = answers_none (fixed_set h table place node) fix_fits

@@ -265,7 +265,7 @@ stream_refused s = record {
   none_earlier = s.none_earlier;
 }
 
-module _ (input : List ℕ) (work_length tableLength : ℕ) where
+module _ (input : List ℕ) (work_length table_length : ℕ) where
   abbrev given : Head × List Record
   given = (head_from input, made_from input)
 
@@ -273,48 +273,48 @@ module _ (input : List ℕ) (work_length tableLength : ℕ) where
   abbrev space_tests : List Test
   space_tests =
       (no 5, leb (work_for input) work_length)
-      ∷ (no 6, leb (length (made_from input)) tableLength && leb (length (made_from input)) 60000)
+      ∷ (no 6, leb (length (made_from input)) table_length && leb (length (made_from input)) 60000)
       ∷ []
 
-  build_tests : build input work_length tableLength ≡ unless (stream_tests input ++ space_tests) given
+  build_tests : build input work_length table_length ≡ unless (stream_tests input ++ space_tests) given
   build_tests =
       ap (λ ts. unless ts given)
       (sym (append_assoc (tree_part (tree_records (records_of input)))
       (query_part (tree_end input) (query_records (records_of input))) space_tests))
 
-  build_passes : Passes (stream_tests input) → build input work_length tableLength ≡ unless space_tests given
+  build_passes : Passes (stream_tests input) → build input work_length table_length ≡ unless space_tests given
   build_passes p = build_tests ∙ unless_append (stream_tests input) space_tests given p
 
-  build_fails : (n : No) → FailsFirst (stream_tests input) n → build input work_length tableLength ≡ refused n
+  build_fails : (n : No) → FailsFirst (stream_tests input) n → build input work_length table_length ≡ refused n
   build_fails n f = build_tests ∙ fails_refused (stream_tests input ++ space_tests) n given (fails_append (stream_tests input) space_tests n f)
 
-  space_fits : Fits (BuildCause input work_length tableLength) space_tests build_order
+  space_fits : Fits (BuildCause input work_length table_length) space_tests build_order
   space_fits = tests (λ e. inl (refl, work.0 e)) cause_five (tests (λ e. inr (refl, table.0 e)) cause_six ends)
     where
       work : Fails (leb (work_for input) work_length) (work_length < work_for input)
       work = fails_at_most (work_for input) work_length
 
-      table : Fails (leb (length (made_from input)) tableLength && leb (length (made_from input)) 60000)
-          ((tableLength < length (made_from input)) ⊎ (60000 < length (made_from input)))
-      table = fails_and (fails_at_most (length (made_from input)) tableLength) (fails_at_most (length (made_from input)) 60000)
+      table : Fails (leb (length (made_from input)) table_length && leb (length (made_from input)) 60000)
+          ((table_length < length (made_from input)) ⊎ (60000 < length (made_from input)))
+      table = fails_and (fails_at_most (length (made_from input)) table_length) (fails_at_most (length (made_from input)) 60000)
 
-      cause_five : BuildCause input work_length tableLength 5 → leb (work_for input) work_length ≡ false
+      cause_five : BuildCause input work_length table_length 5 → leb (work_for input) work_length ≡ false
       cause_five (inl f) = work.1 f.1
       cause_five (inr f) = absurd (omega (arith, f.0))
 
-      cause_six : BuildCause input work_length tableLength 6 → leb (length (made_from input)) tableLength && leb (length (made_from input)) 60000 ≡ false
+      cause_six : BuildCause input work_length table_length 6 → leb (length (made_from input)) table_length && leb (length (made_from input)) 60000 ≡ false
       cause_six (inl f) = absurd (omega (arith, f.0))
       cause_six (inr f) = table.1 f.1
 
   -- the number that a build gives is the first in the paper's order whose cause applies, and its position that of the record at fault
-  pub build_refused : (w : No) → (build input work_length tableLength ≡ refused w) ↔ BuildRefused input work_length tableLength w
+  pub build_refused : (w : No) → (build input work_length table_length ≡ refused w) ↔ BuildRefused input work_length table_length w
   build_refused w = by_stream (stream_outcome input) w
     where
-      space : (v : No) → (unless space_tests given ≡ refused v) ↔ Alone (FirstOf build_order (BuildCause input work_length tableLength)) v
+      space : (v : No) → (unless space_tests given ≡ refused v) ↔ Alone (FirstOf build_order (BuildCause input work_length table_length)) v
       space = refused_first given space_fits
 
       by_stream : Outcome [] input (stream_tests input) → (v : No)
-          → (build input work_length tableLength ≡ refused v) ↔ BuildRefused input work_length tableLength v
+          → (build input work_length table_length ≡ refused v) ↔ BuildRefused input work_length table_length v
       by_stream (all_fine p f) (no n) = (λ e. (f, (space (no n)).0 (sym (build_passes p) ∙ e)), λ g. build_passes p ∙ (space (no n)).1 g.1)
       by_stream (all_fine p f) (no_at n q) = (
         λ e. absurd ((space (no_at n q)).0 (sym (build_passes p) ∙ e)),
@@ -325,18 +325,18 @@ module _ (input : List ℕ) (work_length tableLength : ℕ) where
         λ g. absurd (refused_not_fine (stream_refused s) g.0),
       )
       by_stream (first_refused m r p s) (no_at n q) = (
-        λ e. subst (BuildRefused input work_length tableLength) (refused_inj (sym (build_fails (no_at m r) p) ∙ e)) (stream_refused s),
+        λ e. subst (BuildRefused input work_length table_length) (refused_inj (sym (build_fails (no_at m r) p) ∙ e)) (stream_refused s),
         λ t. build_fails (no_at m r) p ∙ ap refused (refused_same (stream_refused s) t),
       )
 
   -- it answers exactly where no cause applies
-  pub build_answers : (build input work_length tableLength ≡ answer (head_from input, made_from input))
-      ↔ (StreamFine input × NoneOf build_order (BuildCause input work_length tableLength))
+  pub build_answers : (build input work_length table_length ≡ answer (head_from input, made_from input))
+      ↔ (StreamFine input × NoneOf build_order (BuildCause input work_length table_length))
   build_answers = by_stream (stream_outcome input)
     where
       by_stream : Outcome [] input (stream_tests input)
-          → (build input work_length tableLength ≡ answer (head_from input, made_from input))
-          ↔ (StreamFine input × NoneOf build_order (BuildCause input work_length tableLength))
+          → (build input work_length table_length ≡ answer (head_from input, made_from input))
+          ↔ (StreamFine input × NoneOf build_order (BuildCause input work_length table_length))
       by_stream (all_fine p f) = (
         λ e. (f, passes_none space_fits (answered space_tests (sym (build_passes p) ∙ e)).0),
         λ g. build_passes p ∙ answers space_tests given (none_passes space_fits g.1),

@@ -33,12 +33,12 @@ pub record SaysTheAnswer (input : List ℕ) (h : Head) (table : List Record) : T
   -- count is their number
   pub counts : (work_length : ℕ) → question_work h ≤ work_length → count h table work_length ≡ answer (length (listing h table))
   -- row by number is the list's entry
-  pub numbers : (work_length k outLength : ℕ) → question_work h ≤ work_length → k < length (listing h table) → h.arity ≤ outLength
-      → row_by_number h table work_length k outLength ≡ answer (get_or (listing h table) k [])
+  pub numbers : (work_length k out_length : ℕ) → question_work h ≤ work_length → k < length (listing h table) → h.arity ≤ out_length
+      → row_by_number h table work_length k out_length ≡ answer (get_or (listing h table) k [])
   -- member says yes exactly to the accepted rows
   pub members : (work_length : ℕ) → question_work h ≤ work_length → (row : Row)
       → (member h table work_length row ≡ answer true) ↔ InAnswer input row
   -- project marks exactly the nodes that stand there in some accepted row
-  pub projects : (work_length place outLength : ℕ) → question_work h ≤ work_length → is_open h place ≡ true → h.nodes ≤ outLength
-      → project h table work_length place outLength ≡ answer (marks_of h table place)
+  pub projects : (work_length place out_length : ℕ) → question_work h ≤ work_length → is_open h place ≡ true → h.nodes ≤ out_length
+      → project h table work_length place out_length ≡ answer (marks_of h table place)
   pub marks : (place n : ℕ) → n < h.nodes → (get_or (marks_of h table place) n 0 ≡ 1) ↔ Stood input place n

@@ -75,18 +75,18 @@ module _ (h : Head) (table : List Record) (work_length : ℕ) where
   CountCause n = ((n ≡ 5) × (work_length < question_work h)) ⊎ ((n ≡ 11) × (Sound h table → ⊥))
 
   abbrev pub NumberCause : ℕ → ℕ → ℕ → Type 0
-  NumberCause k outLength n = CountCause n ⊎ (((n ≡ 9) × (count_of h table ≤ k)) ⊎ ((n ≡ 10) × (outLength < h.arity)))
+  NumberCause k out_length n = CountCause n ⊎ (((n ≡ 9) × (count_of h table ≤ k)) ⊎ ((n ≡ 10) × (out_length < h.arity)))
 
   abbrev pub MemberCause : Row → ℕ → Type 0
   MemberCause row n = CountCause n ⊎ (((n ≡ 13) × (length row ≡ h.arity → ⊥)) ⊎ ((n ≡ 8) × WrongEntry h row))
 
   abbrev pub ProjectCause : ℕ → ℕ → ℕ → Type 0
-  ProjectCause place outLength n = CountCause n ⊎ (((n ≡ 7) × NotOpen h place) ⊎ ((n ≡ 10) × (outLength < h.nodes)))
+  ProjectCause place out_length n = CountCause n ⊎ (((n ≡ 7) × NotOpen h place) ⊎ ((n ≡ 10) × (out_length < h.nodes)))
 
   abbrev pub FixCause : ℕ → ℕ → ℕ → ℕ → Type 0
-  FixCause place node targetLength n =
+  FixCause place node target_length n =
       CountCause n
       ⊎ (((n ≡ 7) × NotOpen h place)
       ⊎ (((n ≡ 8) × (h.nodes ≤ node))
-      ⊎ (((n ≡ 6) × (targetLength < h.used))
+      ⊎ (((n ≡ 6) × (target_length < h.used))
       ⊎ ((n ≡ 12) × UnitTwice h table place node))))

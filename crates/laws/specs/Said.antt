@@ -16,14 +16,14 @@ pub record SaysTheRows (h : Head) (table : List Record) (rows : List Row) : Type
   -- count is their number
   pub counts : (work_length : ℕ) → question_work h ≤ work_length → count h table work_length ≡ answer (length rows)
   -- row by number is the list's entry
-  pub numbers : (work_length k outLength : ℕ) → question_work h ≤ work_length → k < length rows → h.arity ≤ outLength
-      → row_by_number h table work_length k outLength ≡ answer (get_or rows k [])
+  pub numbers : (work_length k out_length : ℕ) → question_work h ≤ work_length → k < length rows → h.arity ≤ out_length
+      → row_by_number h table work_length k out_length ≡ answer (get_or rows k [])
   -- member says yes exactly to the rows of the list, whatever row it is given
   pub members : (work_length : ℕ) → question_work h ≤ work_length → (row : Row) → (member h table work_length row ≡ answer true) ↔ (row ∈ rows)
   -- and no to every other row that has an entry a place, none of them wrong
   pub others : (work_length : ℕ) → question_work h ≤ work_length → (row : Row) → length row ≡ h.arity → (WrongEntry h row → ⊥) → (row ∈ rows → ⊥)
       → member h table work_length row ≡ answer false
   -- project marks exactly the nodes that stand there in some row of the list
-  pub projects : (work_length place outLength : ℕ) → question_work h ≤ work_length → is_open h place ≡ true → h.nodes ≤ outLength
-      → project h table work_length place outLength ≡ answer (marks_of h table place)
+  pub projects : (work_length place out_length : ℕ) → question_work h ≤ work_length → is_open h place ≡ true → h.nodes ≤ out_length
+      → project h table work_length place out_length ≡ answer (marks_of h table place)
   pub marks : (place n : ℕ) → n < h.nodes → (get_or (marks_of h table place) n 0 ≡ 1) ↔ StandsIn (place - 1) n rows

@@ -124,11 +124,11 @@ abbrev pub build_order : List ℕ
 build_order = 5 ∷ 6 ∷ []
 
 abbrev pub BuildCause : List ℕ → ℕ → ℕ → ℕ → Type 0
-BuildCause input work_length tableLength n =
+BuildCause input work_length table_length n =
     ((n ≡ 5) × (work_length < work_for input))
-    ⊎ ((n ≡ 6) × ((tableLength < length (made_from input)) ⊎ (60000 < length (made_from input))))
+    ⊎ ((n ≡ 6) × ((table_length < length (made_from input)) ⊎ (60000 < length (made_from input))))
 
 -- a build is refused so: the stream at a position; or, where no record of it is at fault, with a number alone
 abbrev pub BuildRefused : List ℕ → ℕ → ℕ → No → Type 0
-BuildRefused input work_length tableLength (no_at n position) = StreamRefused input n position
-BuildRefused input work_length tableLength (no n) = StreamFine input × FirstOf build_order (BuildCause input work_length tableLength) n
+BuildRefused input work_length table_length (no_at n position) = StreamRefused input n position
+BuildRefused input work_length table_length (no n) = StreamFine input × FirstOf build_order (BuildCause input work_length table_length) n

@@ -156,15 +156,15 @@ head_from input = record {
 
 -- all of the tree, the query, 5, 6
 abbrev pub build_tests : List ℕ → ℕ → ℕ → List Test
-build_tests input work_length tableLength =
+build_tests input work_length table_length =
     tree_part (tree_records (records_of input))
     ++ (query_part (tree_end input) (query_records (records_of input))
     ++ ((no 5, leb (work_for input) work_length)
-    ∷ (no 6, leb (length (made_from input)) tableLength && leb (length (made_from input)) 60000)
+    ∷ (no 6, leb (length (made_from input)) table_length && leb (length (made_from input)) 60000)
     ∷ []))
 
 abbrev pub build : List ℕ → ℕ → ℕ → Reply (Head × List Record)
-build input work_length tableLength = unless (build_tests input work_length tableLength) (head_from input, made_from input)
+build input work_length table_length = unless (build_tests input work_length table_length) (head_from input, made_from input)
 
 -- the program, with its table of 2,000 entries and its work of 16,384, gives 14 before all. It tells the records made and the rows
 abbrev pub program : List ℕ → Reply (ℕ × List Row)
@@ -190,10 +190,10 @@ module _ (h : Head) (table : List Record) (work_length : ℕ) where
   count = unless ask_tests (count_of h table)
 
   abbrev pub row_tests : ℕ → ℕ → List Test
-  row_tests k outLength = ask_tests ++ (no 9, ltb k (count_of h table)) ∷ (no 10, leb h.arity outLength) ∷ []
+  row_tests k out_length = ask_tests ++ (no 9, ltb k (count_of h table)) ∷ (no 10, leb h.arity out_length) ∷ []
 
   abbrev pub row_by_number : ℕ → ℕ → Reply Row
-  row_by_number k outLength = unless (row_tests k outLength) (row_numbered h table k)
+  row_by_number k out_length = unless (row_tests k out_length) (row_numbered h table k)
 
   abbrev pub member_tests : Row → List Test
   member_tests row = ask_tests ++ (no 13, eqb (length row) h.arity) ∷ (no 8, entries_fit h 0 row) ∷ []
@@ -202,22 +202,22 @@ module _ (h : Head) (table : List Record) (work_length : ℕ) where
   member row = unless (member_tests row) (is_listed (listing h table) row)
 
   abbrev pub project_tests : ℕ → ℕ → List Test
-  project_tests place outLength = ask_tests ++ (no 7, is_open h place) ∷ (no 10, leb h.nodes outLength) ∷ []
+  project_tests place out_length = ask_tests ++ (no 7, is_open h place) ∷ (no 10, leb h.nodes out_length) ∷ []
 
   abbrev pub project : ℕ → ℕ → Reply (List ℕ)
-  project place outLength = unless (project_tests place outLength) (marks_of h table place)
+  project place out_length = unless (project_tests place out_length) (marks_of h table place)
 
   abbrev pub fix_tests : ℕ → ℕ → ℕ → List Test
-  fix_tests place n targetLength =
+  fix_tests place n target_length =
       ask_tests
       ++ (no 7, is_open h place)
       ∷ (no 8, ltb n h.nodes)
-      ∷ (no 6, leb h.used targetLength)
+      ∷ (no 6, leb h.used target_length)
       ∷ (no 12, not (unit_twice (images_of (place - 1) n (used_of h table)).1 (used_of h table)))
       ∷ []
 
   abbrev pub fix : ℕ → ℕ → ℕ → Reply (Head × List Record)
-  fix place n targetLength = unless (fix_tests place n targetLength) (fixed_set h table place n)
+  fix place n target_length = unless (fix_tests place n target_length) (fixed_set h table place n)
 
 -- ---- left behind. Inputs and the source table are lent to read only
 -- the first entries written, the rest unchanged

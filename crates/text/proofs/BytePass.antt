@@ -8,7 +8,7 @@ use Prim.Native.Nat.{ℕ, ◌+◌, ◌*◌}
 use lib.Dec.{eqb}
 use Rattle.paper.specs.BracketedText.{Token, number, opening, closing}
 use Rattle.paper.specs.Image.{image_bytes}
-use Rattle.writings.specs.ReadText.{Symbol, isBlank, isLineEnd, isMark, isOpening, isClosing, isWrong, Sign, digit, symbol, sign_of}
+use Rattle.writings.specs.ReadText.{Symbol, is_blank, is_line_end, is_mark, is_opening, is_closing, is_wrong, Sign, digit, symbol, sign_of}
 use Rattle.writings.specs.ReadText.{Mode, outside, in_number, in_comment, put, fresh, numbered, byte, cut_from, root_of, read_text}
 use Rattle.writings.proofs.Cutting.{found_cut}
 use Rattle.writings.proofs.Texts.{cut_fit}
@@ -36,12 +36,12 @@ refused_from (b ∷ t) = refused_from t
 module _ (t : List ℕ) (k : Mode → Option (List Token))
     (same : (m : Mode) (s : Step) → image_behind (within m s) t ≡ comes_to s (k m)) where
   symbol_same : (x : Symbol) (c : Kept) → image_behind (after_symbol x c) t ≡ comes_to (going c) (fresh (symbol x) k)
-  symbol_same isBlank c = same outside (going c)
-  symbol_same isLineEnd c = same outside (going c)
-  symbol_same isMark c = same in_comment (going c)
-  symbol_same isOpening c = same outside (step c opening) ∙ put_comes (going c) opening (k outside)
-  symbol_same isClosing c = same outside (step c closing) ∙ put_comes (going c) closing (k outside)
-  symbol_same isWrong c = refused_from t
+  symbol_same is_blank c = same outside (going c)
+  symbol_same is_line_end c = same outside (going c)
+  symbol_same is_mark c = same in_comment (going c)
+  symbol_same is_opening c = same outside (step c opening) ∙ put_comes (going c) opening (k outside)
+  symbol_same is_closing c = same outside (step c closing) ∙ put_comes (going c) closing (k outside)
+  symbol_same is_wrong c = refused_from t
 
   fresh_same : (x : Sign) (c : Kept) → image_behind (after_fresh x c) t ≡ comes_to (going c) (fresh x k)
   fresh_same (digit d) c = same (in_number d) (going c)

@@ -12,7 +12,7 @@ use lib.Dec.{eqb, leb}
 use lib.ListN.{length, get_or, drop}
 use lib.Seq.{drop-cons}
 use Rattle.paper.specs.BracketedText.{Comment, number, opening, closing}
-use Rattle.writings.specs.ReadText.{Symbol, isBlank, isLineEnd, isMark, isOpening, isClosing, isWrong, symbol_of, digit, symbol, sign_of, outside, in_number, in_comment}
+use Rattle.writings.specs.ReadText.{Symbol, is_blank, is_line_end, is_mark, is_opening, is_closing, is_wrong, symbol_of, digit, symbol, sign_of, outside, in_number, in_comment}
 use Rattle.text.specs.Pass.{Kept, Step, faulty, going, step, State, refused, reading, within, after_symbol, after_fresh, behind, one_more, after_number, after_byte, at_end, image_at, image_behind, image_of_text}
 use Rattle.text.specs.Reading.{Reading, kept_in, state_in, Room, start, Leaves, EndsNumber, number_ended, uncommented, Ends}
 use Rattle.text.proofs.BytePass.{refused_from}
@@ -23,18 +23,18 @@ use Rattle.text.proofs.Symbols.{within_outside}
 
 -- ---- no comment begins
 abbrev NoMark : Symbol → Type 0
-NoMark isMark = ⊥
-NoMark isBlank = Unit {0}
-NoMark isLineEnd = Unit {0}
-NoMark isOpening = Unit {0}
-NoMark isClosing = Unit {0}
-NoMark isWrong = Unit {0}
+NoMark is_mark = ⊥
+NoMark is_blank = Unit {0}
+NoMark is_line_end = Unit {0}
+NoMark is_opening = Unit {0}
+NoMark is_closing = Unit {0}
+NoMark is_wrong = Unit {0}
 
 no_mark : (b : ℕ) → (b ≡ 33 → ⊥) → NoMark (symbol_of b)
 no_mark b h = rw (ne_eqb b 33 h) (go (eqb b 32) (eqb b 10) (eqb b 40) (eqb b 41))
   where
     go : (blank line opens closes : Bool)
-        → NoMark (cond blank isBlank (cond line isLineEnd (cond opens isOpening (cond closes isClosing isWrong))))
+        → NoMark (cond blank is_blank (cond line is_line_end (cond opens is_opening (cond closes is_closing is_wrong))))
     go true line opens closes = tt
     go false true opens closes = tt
     go false false true closes = tt
@@ -42,12 +42,12 @@ no_mark b h = rw (ne_eqb b 33 h) (go (eqb b 32) (eqb b 10) (eqb b 40) (eqb b 41)
     go false false false false = tt
 
 symbol_stays : (x : Symbol) → NoMark x → (k : Kept) → after_symbol x k ≡ uncommented (after_symbol x k)
-symbol_stays isBlank h k = refl
-symbol_stays isLineEnd h k = refl
-symbol_stays isMark h k = absurd h
-symbol_stays isOpening h k = within_outside (step k opening)
-symbol_stays isClosing h k = within_outside (step k closing)
-symbol_stays isWrong h k = refl
+symbol_stays is_blank h k = refl
+symbol_stays is_line_end h k = refl
+symbol_stays is_mark h k = absurd h
+symbol_stays is_opening h k = within_outside (step k opening)
+symbol_stays is_closing h k = within_outside (step k closing)
+symbol_stays is_wrong h k = refl
 
 behind_stays : (x : Symbol) → NoMark x → (t : Step) → behind x t ≡ uncommented (behind x t)
 behind_stays x h faulty = refl
@@ -74,7 +74,7 @@ number_stays b h n k = go (leb 48 b && leb b 57)
     go false = behind_stays (symbol_of b) (no_mark b h) (step k (number n))
 
 -- ---- a comment begins
-behind_mark : {t rest : List ℕ} → Comment t rest → (s : Step) → image_behind (behind isMark s) t ≡ image_behind (uncommented (behind isMark s)) rest
+behind_mark : {t rest : List ℕ} → Comment t rest → (s : Step) → image_behind (behind is_mark s) t ≡ image_behind (uncommented (behind is_mark s)) rest
 behind_mark {t} {rest} g faulty = refused_from t ∙ sym (refused_from rest)
 behind_mark g (going k) = in_comment_lem g k
 

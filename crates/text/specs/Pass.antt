@@ -3,7 +3,7 @@
 use Rattle.std.specs.Prelude.{Bool, true, false, cond, ◌&&◌, ◌||◌, List, [], ◌∷◌, ◌++◌, ℕ, ◌+◌, ◌*◌, ◌-◌, eqb, leb, ltb}
 use Rattle.std.proofs.Math.Option.{Option, none, some}
 use Rattle.paper.specs.BracketedText.{Token, number, opening, closing}
-use Rattle.writings.specs.ReadText.{Symbol, isBlank, isLineEnd, isMark, isOpening, isClosing, isWrong, Sign, digit, symbol, sign_of, Mode, outside, in_number, in_comment}
+use Rattle.writings.specs.ReadText.{Symbol, is_blank, is_line_end, is_mark, is_opening, is_closing, is_wrong, Sign, digit, symbol, sign_of, Mode, outside, in_number, in_comment}
 use Rattle.text.specs.Bounds.{most_written}
 
 -- ---- the labels that wait
@@ -111,12 +111,12 @@ within m (going k) = reading m k
 
 -- a byte between tokens that is no digit
 abbrev pub after_symbol : Symbol → Kept → State
-after_symbol isBlank k = reading outside k
-after_symbol isLineEnd k = reading outside k
-after_symbol isMark k = reading in_comment k
-after_symbol isOpening k = within outside (step k opening)
-after_symbol isClosing k = within outside (step k closing)
-after_symbol isWrong k = refused
+after_symbol is_blank k = reading outside k
+after_symbol is_line_end k = reading outside k
+after_symbol is_mark k = reading in_comment k
+after_symbol is_opening k = within outside (step k opening)
+after_symbol is_closing k = within outside (step k closing)
+after_symbol is_wrong k = refused
 
 abbrev pub after_fresh : Sign → Kept → State
 after_fresh (digit d) k = reading (in_number d) k

@@ -12,7 +12,7 @@ use lib.Dec.{eqb, leb}
 use Rattle.laws.proofs.Lists.{both_true}
 use Rattle.paper.specs.BracketedText.{Token, number, opening, closing, decimal, NoDigitFirst, Comment, text_ends, line_ends, goes_on}
 use Rattle.paper.specs.BracketedText.{Cut, end, blank, line_end, comment, opens, closes, label}
-use Rattle.writings.specs.ReadText.{isBlank, isLineEnd, isMark, isOpening, isClosing, isWrong, Sign, digit, symbol, sign_of}
+use Rattle.writings.specs.ReadText.{is_blank, is_line_end, is_mark, is_opening, is_closing, is_wrong, Sign, digit, symbol, sign_of}
 use Rattle.writings.specs.ReadText.{Mode, outside, in_number, in_comment, put, fresh, numbered, byte, text_end, cut_from}
 use Rattle.writings.proofs.Signs.{Means, sign_means, sign_digit, one_digit, two_digits}
 
@@ -32,12 +32,12 @@ module _ (b : ℕ) (t : List ℕ) (k : Mode → Option (List Token)) (right : (m
   fresh_right : (x : Sign) → Means x b → (ts : List Token) → fresh x k ≡ some ts → Cut (b ∷ t) ts
   fresh_right (digit d) h ts e =
       rw h.0 (rw (one_digit d h.1) at (right (in_number d) ts e (omega arith)))
-  fresh_right (symbol isBlank) h ts e = rw h.1 (blank (right outside ts e))
-  fresh_right (symbol isLineEnd) h ts e = rw h.1 (line_end (right outside ts e))
-  fresh_right (symbol isMark) h ts e = let r = right in_comment ts e in rw h.1 (comment r.1 r.2)
-  fresh_right (symbol isOpening) h ts e = let (us, f, g) = put_some opening (k outside) ts e in rw (h.1, g) (opens (right outside us f))
-  fresh_right (symbol isClosing) h ts e = let (us, f, g) = put_some closing (k outside) ts e in rw (h.1, g) (closes (right outside us f))
-  fresh_right (symbol isWrong) h ts e = absurd (none-ne-some ts e)
+  fresh_right (symbol is_blank) h ts e = rw h.1 (blank (right outside ts e))
+  fresh_right (symbol is_line_end) h ts e = rw h.1 (line_end (right outside ts e))
+  fresh_right (symbol is_mark) h ts e = let r = right in_comment ts e in rw h.1 (comment r.1 r.2)
+  fresh_right (symbol is_opening) h ts e = let (us, f, g) = put_some opening (k outside) ts e in rw (h.1, g) (opens (right outside us f))
+  fresh_right (symbol is_closing) h ts e = let (us, f, g) = put_some closing (k outside) ts e in rw (h.1, g) (closes (right outside us f))
+  fresh_right (symbol is_wrong) h ts e = absurd (none-ne-some ts e)
 
   numbered_right : (n : ℕ) → n ≤ 63 → (x : Sign) → Means x b → (ts : List Token) → numbered n x k ≡ some ts → Cut (decimal n ++ (b ∷ t)) ts
   numbered_right n le (digit d) h ts e = go (leb 1 n && leb (10 * n + d) 63) refl e

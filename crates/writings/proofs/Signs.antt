@@ -8,16 +8,16 @@ use native.Mathlib.Omega.{arith}
 use borrow.Author.Tests.{eqb-true, leb-true, leb-false, le-leb, lt-ltb, le-ltb}
 use lib.Dec.{eqb, leb}
 use Rattle.paper.specs.BracketedText.{decimal}
-use Rattle.writings.specs.ReadText.{Symbol, isBlank, isLineEnd, isMark, isOpening, isClosing, isWrong, Sign, digit, symbol, symbol_of, sign_of}
+use Rattle.writings.specs.ReadText.{Symbol, is_blank, is_line_end, is_mark, is_opening, is_closing, is_wrong, Sign, digit, symbol, symbol_of, sign_of}
 
 -- ---- signs
 abbrev pub Stands : Symbol → ℕ → Type 0
-Stands isBlank b = b ≡ 32
-Stands isLineEnd b = b ≡ 10
-Stands isMark b = b ≡ 33
-Stands isOpening b = b ≡ 40
-Stands isClosing b = b ≡ 41
-Stands isWrong b = Unit {0}
+Stands is_blank b = b ≡ 32
+Stands is_line_end b = b ≡ 10
+Stands is_mark b = b ≡ 33
+Stands is_opening b = b ≡ 40
+Stands is_closing b = b ≡ 41
+Stands is_wrong b = Unit {0}
 
 abbrev pub Means : Sign → ℕ → Type 0
 Means (digit d) b = (b ≡ 48 + d) × (d ≤ 9)
@@ -28,7 +28,7 @@ symbol_stands b = go (eqb b 32) refl (eqb b 10) refl (eqb b 33) refl (eqb b 40) 
   where
     go : (p : Bool) → eqb b 32 ≡ p → (q : Bool) → eqb b 10 ≡ q → (r : Bool) → eqb b 33 ≡ r → (s : Bool) → eqb b 40 ≡ s
         → (u : Bool) → eqb b 41 ≡ u
-        → Stands (cond p isBlank (cond q isLineEnd (cond r isMark (cond s isOpening (cond u isClosing isWrong))))) b
+        → Stands (cond p is_blank (cond q is_line_end (cond r is_mark (cond s is_opening (cond u is_closing is_wrong))))) b
     go true e q h r i s j u k = eqb-true b 32 e
     go false e true h r i s j u k = eqb-true b 10 h
     go false e false h true i s j u k = eqb-true b 33 i

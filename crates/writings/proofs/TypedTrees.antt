@@ -32,9 +32,9 @@ module _ (w : WrittenTree) (query : List ℕ) (begins : tree_records (records_of
   typed_passes a = subst (λ rs. Passes (tree_part rs)) (sym typed_records) (records_pass w a)
 
 -- ---- behind the tree's tests only numbers from 3 on are given
-pub typed_never_refused : (w : WrittenTree) → Allowed w → (query : List ℕ) → tree_records (records_of query) ≡ [] → (work_length tableLength : ℕ) (n : No)
-    → build (image_bytes w ++ query) work_length tableLength ≡ refused n → 3 ≤ number_in n
-typed_never_refused w a query begins work_length tableLength n e =
+pub typed_never_refused : (w : WrittenTree) → Allowed w → (query : List ℕ) → tree_records (records_of query) ≡ [] → (work_length table_length : ℕ) (n : No)
+    → build (image_bytes w ++ query) work_length table_length ≡ refused n → 3 ≤ number_in n
+typed_never_refused w a query begins work_length table_length n e =
     says_refused FromThree (of_query ++ last) _ from_three
     (sym (unless_append (tree_part (tree_records (records_of input))) _ _ (typed_passes w query begins a)) ∙ e)
   where
@@ -51,7 +51,7 @@ typed_never_refused w a query begins work_length tableLength n e =
     last : List Test
     last =
         (no 5, leb (work_for input) work_length)
-        ∷ (no 6, leb (length (made_from input)) tableLength && leb (length (made_from input)) 60000)
+        ∷ (no 6, leb (length (made_from input)) table_length && leb (length (made_from input)) 60000)
         ∷ []
 
     weaker : (ts : List Test) → EachSays ThreeOrFour ts → EachSays FromThree ts

@@ -6,7 +6,7 @@ use Rattle.paper.specs.BracketedText.{Token, number, opening, closing}
 
 -- ---- bytes to tokens
 pub data Symbol : Type 0 where
-  isBlank isLineEnd isMark isOpening isClosing isWrong : Symbol
+  is_blank is_line_end is_mark is_opening is_closing is_wrong : Symbol
 
 pub data Sign : Type 0 where
   digit : ℕ → Sign
@@ -14,7 +14,7 @@ pub data Sign : Type 0 where
 
 abbrev pub symbol_of : ℕ → Symbol
 symbol_of b =
-    cond (eqb b 32) isBlank (cond (eqb b 10) isLineEnd (cond (eqb b 33) isMark (cond (eqb b 40) isOpening (cond (eqb b 41) isClosing isWrong))))
+    cond (eqb b 32) is_blank (cond (eqb b 10) is_line_end (cond (eqb b 33) is_mark (cond (eqb b 40) is_opening (cond (eqb b 41) is_closing is_wrong))))
 
 abbrev pub sign_of : ℕ → Sign
 sign_of b = cond (leb 48 b && leb b 57) (digit (b - 48)) (symbol (symbol_of b))
@@ -32,12 +32,12 @@ put x (some ts) = some (x ∷ ts)
 -- a byte between tokens; k reads on
 abbrev pub fresh : Sign → (Mode → Option (List Token)) → Option (List Token)
 fresh (digit d) k = k (in_number d)
-fresh (symbol isBlank) k = k outside
-fresh (symbol isLineEnd) k = k outside
-fresh (symbol isMark) k = k in_comment
-fresh (symbol isOpening) k = put opening (k outside)
-fresh (symbol isClosing) k = put closing (k outside)
-fresh (symbol isWrong) k = none
+fresh (symbol is_blank) k = k outside
+fresh (symbol is_line_end) k = k outside
+fresh (symbol is_mark) k = k in_comment
+fresh (symbol is_opening) k = put opening (k outside)
+fresh (symbol is_closing) k = put closing (k outside)
+fresh (symbol is_wrong) k = none
 
 -- a byte in a number: one more digit, with no leading zero and up to 63, or the byte after its end
 abbrev pub numbered : ℕ → Sign → (Mode → Option (List Token)) → Option (List Token)
