@@ -36,5 +36,6 @@ pub mod Finishing
 pub mod Storing
 pub mod DriveLoop
 pub mod Facing
+pub mod StateShape
 pub mod BuildRight
 pub mod OneAnswer

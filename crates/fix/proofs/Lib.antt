@@ -6,3 +6,4 @@ pub mod Imaging
 pub mod Behind
 pub mod Recording
 pub mod Facing
+pub mod StateShape

@@ -1,5 +1,6 @@
 pub mod Zeros
 pub mod Marking
+pub mod StateShape
 pub mod Operands
 pub mod Standing
 pub mod Made

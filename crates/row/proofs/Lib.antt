@@ -4,6 +4,7 @@ pub mod RowNumbers
 pub mod Leading
 pub mod Descents
 pub mod Onward
+pub mod StateShape
 pub mod Driving
 pub mod Writing
 pub mod Searching

@@ -6,9 +6,11 @@ pub mod RowCounts
 pub mod WeightParts
 pub mod Testing
 pub mod OneMore
+pub mod StateShape
 pub mod Driving
 pub mod Cells
 pub mod Facing
+pub mod Heads
 pub mod Answered
 pub mod Replying
 pub mod Counting

@@ -1,0 +1,11 @@
+-- The struct `State`, as the laws of `walks` take a state: its fields `going` and `at`.
+use mathlib.Core.Path.{refl}
+use Rattle.walks.proofs.States.{Field, Shape, shape_of}
+use Rattle.member.specs.contracts.pass.State as S
+use Rattle.member.proofs.pass.State.TheLaws as S'
+
+abbrev pub shape : Shape
+shape = shape_of S.the_type S'.the_laws S'.the_plain S'.the_copy 4 25 (λ s. s.going) refl (λ s. refl)
+
+abbrev pub at_field : Field shape
+at_field = record { number = 0; place = 0; value = λ s. s.at; there = refl; is = λ s. refl }
