@@ -73,9 +73,9 @@ module _ (Q : Query) (t : Tree) where
   answer_each = accept_each (up_to Q.states) []
 
   -- ---- the list is right
-  module _ (deterministic : Deterministic Q) (in_range_lem : InRange Q) (nodes : ℕ) (numbered : Numbered 0 t nodes) (few : nodes ≤ 4095) where
+  module _ (deterministic : Deterministic Q) (numbers_fit : InRange Q) (nodes : ℕ) (numbered : Numbered 0 t nodes) (few : nodes ≤ 4095) where
     slots_right : Right Q.arity Q.rules 0 t nodes
-    slots_right = right Q.arity Q.rules deterministic in_range_lem.flags numbered (omega arith)
+    slots_right = right Q.arity Q.rules deterministic numbers_fit.flags numbered (omega arith)
 
     -- a listed row is accepted
     listed_accepted : (row : Row) → row ∈ answer_rows Q t → Accepted t Q row
@@ -109,7 +109,7 @@ module _ (Q : Query) (t : Tree) where
           runs = h.runs;
         } in
         rw answer_each
-        (in_each (up_to Q.states) chosen (in_up_to Q.states (in_range_lem.accepts q h.accepts))
+        (in_each (up_to Q.states) chosen (in_up_to Q.states (numbers_fit.accepts q h.accepts))
         (in_cond (has Q.accepting q) (true_has Q.accepting q h.accepts) (slots_right.complete q full row held)))
 
     -- the rows of the answer are the accepted rows

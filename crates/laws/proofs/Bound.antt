@@ -233,13 +233,13 @@ module _ (Q : Query) (n : ℕ) (f : Slots Set) where
 -- the records made are at most 4 times 3 to the arity times rules times nodes, plus one less than the accepting states
 pub records_bound : (Q : Query) → InRange Q → Q.arity ≤ 4 → (t : Tree) (nodes : ℕ) → Numbered 0 t nodes
     → length (answer_of record_sets Q t []).0 ≤ 4 * 3 ^ Q.arity * length Q.rules * nodes + (length Q.accepting - 1)
-records_bound Q in_range_lem few t nodes numbered =
+records_bound Q numbers_fit few t nodes numbered =
     let (s, slots) = slots_of record_sets Q.arity Q.rules t [] in
     let states = up_to Q.states in
     let chosen = accepting_in Q.accepting states in
     omega (
       arith,
-      in_tree Q.arity few Q.rules in_range_lem.flags numbered [],
+      in_tree Q.arity few Q.rules numbers_fit.flags numbered [],
       end_unions Q (root t) slots states s,
       few_in_numbers Q.accepting chosen (once_accepting Q.accepting states (once_count_from Q.states 0))
           (λ x m. (mem_accepting Q.accepting states x m).1),

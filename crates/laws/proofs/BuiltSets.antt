@@ -74,7 +74,7 @@ module _ (input : List ℕ) (work_length table_length : ℕ) (passes : Passes (b
       let Q = query_in input in
       let t = tree_in input in
       let det = read_query.deterministic in
-      let ok = read_query.in_range_lem in
+      let ok = read_query.numbers_fit in
       record {
         uses = used_over (head_from input) (made_from input) table refl;
         number = refl;
@@ -134,18 +134,18 @@ module _ (input : List ℕ) (h : Head) (table : List Record) (B : BuiltSet input
   pub built_bound : h.used ≤ 4 * 3 ^ h.arity * length (query_in input).rules * h.nodes + (length (query_in input).accepting - 1)
   built_bound =
       subst (λ (x : Head). x.used ≤ 4 * 3 ^ x.arity * length (query_in input).rules * x.nodes + (length (query_in input).accepting - 1)) built_is.0
-      (records_bound (query_in input) query.in_range_lem query.few_places (tree_in input) (nodes_in input) tree.0)
+      (records_bound (query_in input) query.numbers_fit query.few_places (tree_in input) (nodes_in input) tree.0)
 
   -- ---- the questions on it
   rows_right : (row : Row) → (row ∈ listing h table) ↔ InAnswer input row
   rows_right row =
       subst (λ (rows : List Row). (row ∈ rows) ↔ InAnswer input row) (sym built_lists)
-      (answer_right (query_in input) (tree_in input) query.deterministic query.in_range_lem (nodes_in input) tree.0 tree.2 row)
+      (answer_right (query_in input) (tree_in input) query.deterministic query.numbers_fit (nodes_in input) tree.0 tree.2 row)
 
   rows_once : Once (listing h table)
   rows_once =
       subst Once (sym built_lists)
-      (answer_once (query_in input) (tree_in input) query.deterministic query.in_range_lem (nodes_in input) tree.0 tree.2)
+      (answer_once (query_in input) (tree_in input) query.deterministic query.numbers_fit (nodes_in input) tree.0 tree.2)
 
   -- what they say of the listing, they say of the accepted rows
   says : SaysTheRows h table (listing h table)

@@ -22,7 +22,7 @@ use Rattle.laws.proofs.Replies.{Passes}
 -- what a query that is read has
 pub record ReadQuery (Q : Query) : Type 0 where
   pub deterministic : Deterministic Q
-  pub in_range_lem : InRange Q
+  pub numbers_fit : InRange Q
   pub some_places : 1 ≤ Q.arity
   pub few_places : Q.arity ≤ 4
   pub some_states : 1 ≤ Q.states
@@ -53,7 +53,7 @@ module _ (Q : Query) (h : ReadQuery Q) where
   add_rule : (r : Rule) → rule_flag r < 2 ^ Q.arity → length Q.rules < 1024 → has_side Q.rules (side r) ≡ false → ReadQuery (with_rule Q r)
   add_rule r flag few new = record {
     deterministic = rw map-append (once_snoc (map side Q.rules) (side r) h.deterministic (λ m. true≢false (sym (side_found Q.rules m) ∙ new)));
-    in_range_lem = record { flags = flags_in; accepts = h.in_range_lem.accepts };
+    numbers_fit = record { flags = flags_in; accepts = h.numbers_fit.accepts };
     some_places = h.some_places;
     few_places = h.few_places;
     some_states = h.some_states;
@@ -64,14 +64,14 @@ module _ (Q : Query) (h : ReadQuery Q) where
     where
       flags_in : (x : Rule) → x ∈ Q.rules ++ (r ∷ []) → rule_flag x < 2 ^ Q.arity
       flags_in x m =
-          ⊎_elim (h.in_range_lem.flags x) (λ n. subst (λ (z : Rule). rule_flag z < 2 ^ Q.arity) (sym (only n)) flag)
+          ⊎_elim (h.numbers_fit.flags x) (λ n. subst (λ (z : Rule). rule_flag z < 2 ^ Q.arity) (sym (only n)) flag)
           (Memᴰ.append_cases Q.rules m)
 
   -- a new accepting state in range
   add_state : (q : ℕ) → q < Q.states → has Q.accepting q ≡ false → ReadQuery (with_state Q q)
   add_state q below new = record {
     deterministic = h.deterministic;
-    in_range_lem = record { flags = h.in_range_lem.flags; accepts = accepts_in };
+    numbers_fit = record { flags = h.numbers_fit.flags; accepts = accepts_in };
     some_places = h.some_places;
     few_places = h.few_places;
     some_states = h.some_states;
@@ -81,7 +81,7 @@ module _ (Q : Query) (h : ReadQuery Q) where
   }
     where
       accepts_in : (x : ℕ) → x ∈ Q.accepting ++ (q ∷ []) → x < Q.states
-      accepts_in x m = ⊎_elim (h.in_range_lem.accepts x) (λ n. omega (arith, only n)) (Memᴰ.append_cases Q.accepting m)
+      accepts_in x m = ⊎_elim (h.numbers_fit.accepts x) (λ n. omega (arith, only n)) (Memᴰ.append_cases Q.accepting m)
 
 -- ---- one more record
 -- the rules, and the accepting states, of records one after the other
@@ -173,7 +173,7 @@ later_read Q r h p = go (is_rule_kind r.kind) (eqb r.kind 19) refl refl p.1.1.0 
 head_read : (r : StreamRecord) → Passes (head_tests r) → ReadQuery (query_of (r ∷ []))
 head_read r p = record {
   deterministic = tt;
-  in_range_lem = record { flags = λ x m. absurd (Memᴰ.not-nil m); accepts = λ x m. absurd (Memᴰ.not-nil m) };
+  numbers_fit = record { flags = λ x m. absurd (Memᴰ.not-nil m); accepts = λ x m. absurd (Memᴰ.not-nil m) };
   some_places = leb-true 1 (number r 0) places.0;
   few_places = leb-true (number r 0) 4 places.1;
   some_states = leb-true 1 (number r 1) states.0;

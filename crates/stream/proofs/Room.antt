@@ -65,7 +65,7 @@ module _ (input : List ℕ) (at : ℕ) (f : QueryFacts) (e : answer f ≡ query_
         length-drop f.rules input,
         bytes_behind (records_of (drop f.rules input)) (kinds_read input at f e) (whole_read input at f e),
         query.few_rules,
-        few_numbers f.states (accepting_of (records_of (drop f.rules input))) query.accepts_once query.in_range_lem.accepts,
+        few_numbers f.states (accepting_of (records_of (drop f.rules input))) query.accepts_once query.numbers_fit.accepts,
         query.few_states,
       )
 
