@@ -1,15 +1,17 @@
 -- An answer is told by what it says: two results that say the same are the same. So a contract that fixes what is said fixes the answer.
--- First refusals, by what they say, then the answers, a law for each of the two kinds of refusals.
+-- First refusals, by what they say, then the results.
+use mathlib.Core.Bool.{Bool}
 use mathlib.Core.List.{[], ◌∷◌}
 use mathlib.Core.Path.{◌∙◌, ◌≡◌, ap, refl, sym}
 use Prim.Native.Nat.{◌-◌, ℕ}
 use lib.ListN.{get_or}
-use Rattle.std.specs.Prelude.{Result, Ok, Err}
+use Rattle.std.specs.Prelude.{Err, Ok, Result}
+use Rattle.paper.specs.declared.Head.{Head}
 use Rattle.paper.specs.declared.Refusal.{Refusal}
 use Rattle.paper.specs.declared.Refusal.TheVariants.{LongInput, Node, NotSound, Place, RowLength, RowNumber, ShortOutput, ShortTable, ShortWork, Text, UnitTwice}
 use Rattle.paper.specs.declared.StreamRefusal.{StreamRefusal}
 use Rattle.paper.specs.declared.StreamRefusal.TheVariants.{ManyNodes, Other, Query, Tree, Twice}
-use Rattle.paper.specs.Answers.{no_of, no_of_stream, says}
+use Rattle.paper.specs.Answers.{no_of, no_of_stream, says, says_built, says_converted, says_counted, says_fixed, says_member, says_projected, says_written}
 use Rattle.paper.specs.Refusals.{No, Reply, answer, no, no_at, number_in, refused}
 
 -- what is said, read back, is the answer: so two answers that say the same are one
@@ -53,22 +55,36 @@ stream_refusal_told (Twice p) = refl
 stream_refusal_told (Other r) = ap Other (refusal_told r)
 
 -- ---- the answers
-module _ {A E : Type 0} (said : E → No) (back : No → E) (told : (why : E) → back (said why) ≡ why) where
+-- a result says its answer, or what its refusal says
+module _ {A E : Type 0} (said : E → No) (back : No → E) (reads : (e : E) → back (said e) ≡ e) where
   abbrev result_of : Reply A → Result A E
   result_of (refused n) = Err (back n)
   result_of (answer a) = Ok a
 
-  read_back : (r : Result A E) → result_of (says said r) ≡ r
-  read_back (Ok a) = refl
-  read_back (Err why) = ap Err (told why)
+  result_told : (r : Result A E) → result_of (says said r) ≡ r
+  result_told (Ok a) = refl
+  result_told (Err e) = ap Err (reads e)
 
-  -- two results that say the same are the same
-  one_result : (a b : Result A E) → says said a ≡ says said b → a ≡ b
-  one_result = told_apart (says said) result_of read_back
+  pub one_result : (a b : Result A E) → says said a ≡ says said b → a ≡ b
+  one_result = told_apart (says said) result_of result_told
 
-pub one_answer : {A : Type 0} (a b : Result A Refusal) → says no_of a ≡ says no_of b → a ≡ b
-one_answer = one_result no_of refusal_of refusal_told
+pub one_built : (a b : Result Head StreamRefusal) → says_built a ≡ says_built b → a ≡ b
+one_built = one_result no_of_stream stream_refusal_of stream_refusal_told
 
--- of a stream
-pub one_stream_answer : {A : Type 0} (a b : Result A StreamRefusal) → says no_of_stream a ≡ says no_of_stream b → a ≡ b
-one_stream_answer = one_result no_of_stream stream_refusal_of stream_refusal_told
+pub one_counted : (a b : Result ℕ Refusal) → says_counted a ≡ says_counted b → a ≡ b
+one_counted = one_result no_of refusal_of refusal_told
+
+pub one_written : (a b : Result (Unit {0}) Refusal) → says_written a ≡ says_written b → a ≡ b
+one_written = one_result no_of refusal_of refusal_told
+
+pub one_member : (a b : Result Bool Refusal) → says_member a ≡ says_member b → a ≡ b
+one_member = one_result no_of refusal_of refusal_told
+
+pub one_projected : (a b : Result (Unit {0}) Refusal) → says_projected a ≡ says_projected b → a ≡ b
+one_projected = one_result no_of refusal_of refusal_told
+
+pub one_fixed : (a b : Result Head Refusal) → says_fixed a ≡ says_fixed b → a ≡ b
+one_fixed = one_result no_of refusal_of refusal_told
+
+pub one_converted : (a b : Result ℕ Refusal) → says_converted a ≡ says_converted b → a ≡ b
+one_converted = one_result no_of refusal_of refusal_told
