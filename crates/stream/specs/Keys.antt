@@ -13,13 +13,7 @@ use Rattle.stream.specs.Reading.{QueryFacts}
 abbrev pub word_bits : ℕ
 word_bits = 64
 
--- words of the three tables: the least that has a bit for each key of the query is taken
-abbrev pub small_table : ℕ
-small_table = 128
-
-abbrev pub middle_table : ℕ
-middle_table = 1041
-
+-- words of the largest table: it has a bit for each key of any query
 abbrev pub large_table : ℕ
 large_table = 4113
 

@@ -4,7 +4,7 @@
 ghost use Rattle.std.specs.Prelude.{true, [], ◌≡◌, ◌*◌, ◌≤◌, get_or};
 ghost use Rattle.paper.specs.Query.{is_rule_kind};
 ghost use Rattle.stream.specs.OneRecord.{BehindHead, AtLaterRecord, query_step, says_query_step, later_reply};
-ghost use Rattle.stream.specs.Keys.{AtFittingRecord, TableOf, TableAfter, keys_of, word_bits, small_table, middle_table, large_table};
+ghost use Rattle.stream.specs.Keys.{AtFittingRecord, TableOf, TableAfter, keys_of, word_bits, large_table};
 ghost use Rattle.stream.specs.Positions.{records_between};
 ghost use Rattle.stream.specs.Reading.{says_query, query_reply};
 
@@ -126,30 +126,17 @@ const MIDDLE_TABLE: usize = 1041;
 // For arity 4 with 16 states, the most: 263,184 keys.
 const LARGE_TABLE: usize = 4113;
 
-fn with_small_table(input: &[u8], facts: QueryFacts) -> Result<QueryFacts, StreamRefusal>
+// All records behind the head, with a new table of so many words.
+fn with_table<const WORDS: usize>(
+    input: &[u8],
+    facts: QueryFacts,
+) -> Result<QueryFacts, StreamRefusal>
     requires behind_head { BehindHead input.now facts }
-    requires facts_bound { keys_of facts ≤ word_bits * small_table }
+    requires room { keys_of facts ≤ word_bits * WORDS }
+    requires words_bound { WORDS ≤ large_table }
     ensures { says_query result ≡ later_reply input.now facts }
 {
-    let mut said: [u64; SMALL_TABLE] = [0; SMALL_TABLE];
-    each_record(input, facts, &mut said)
-}
-
-fn with_middle_table(input: &[u8], facts: QueryFacts) -> Result<QueryFacts, StreamRefusal>
-    requires behind_head { BehindHead input.now facts }
-    requires facts_bound { keys_of facts ≤ word_bits * middle_table }
-    ensures { says_query result ≡ later_reply input.now facts }
-{
-    let mut said: [u64; MIDDLE_TABLE] = [0; MIDDLE_TABLE];
-    each_record(input, facts, &mut said)
-}
-
-fn with_large_table(input: &[u8], facts: QueryFacts) -> Result<QueryFacts, StreamRefusal>
-    requires behind_head { BehindHead input.now facts }
-    requires facts_bound { keys_of facts ≤ word_bits * large_table }
-    ensures { says_query result ≡ later_reply input.now facts }
-{
-    let mut said: [u64; LARGE_TABLE] = [0; LARGE_TABLE];
+    let mut said: [u64; WORDS] = [0; WORDS];
     each_record(input, facts, &mut said)
 }
 
@@ -160,12 +147,12 @@ fn later_records(input: &[u8], facts: QueryFacts) -> Result<QueryFacts, StreamRe
 {
     let keys = number_of_keys(facts);
     if keys <= WORD_BITS * SMALL_TABLE {
-        return with_small_table(input, facts);
+        return with_table::<SMALL_TABLE>(input, facts);
     }
     if keys <= WORD_BITS * MIDDLE_TABLE {
-        return with_middle_table(input, facts);
+        return with_table::<MIDDLE_TABLE>(input, facts);
     }
-    with_large_table(input, facts)
+    with_table::<LARGE_TABLE>(input, facts)
 }
 
 // All of the query whose head stands at a position: refusals 3 and 4.
