@@ -2,13 +2,13 @@
 // accepting state and for each kind and left side of a rule. Then the table, a bit for each key.
 ghost use Rattle.std.specs.Prelude.{true, ◌≡◌, ◌*◌, ◌≤◌, ◌<◌, length, get_or};
 ghost use Rattle.paper.specs.Query.{is_rule_kind};
-ghost use Rattle.stream.specs.Keys.{word_bits, most_flags, most_ends, most_keys, flags_of, ends_of, keys_of, key_of, WholeAt, SaysKey};
+ghost use Rattle.stream.specs.Keys.{word_bits, most_flags, most_ends, most_keys, flags_of, ends_of, keys_of, key_of, WholeAt, FittingAt, SaysKey};
 ghost use Rattle.stream.specs.OneRecord.{HeadInRange};
 ghost use Rattle.stream.specs.Positions.{record_at};
 
 use crate::head::QueryFacts;
 use crate::lists::LABELS;
-use paper::kinds::LEAF_RULE;
+use paper::kinds::{ACCEPTING_STATE, LEAF_RULE};
 use paper::limits::MOST_STATES;
 
 // Bits of a word of the table.
@@ -46,18 +46,9 @@ fn number_at(input: &[u8], at: usize) -> usize
     input[at] as usize
 }
 
-// The key of an accepting state is the state.
-pub(crate) fn state_key(input: &[u8], facts: QueryFacts, at: usize) -> usize
-    requires whole_at { WholeAt input.now facts at }
-    requires at_value { get_or input.now at 0 ≡ 19 }
-    ensures { result ≡ key_of facts (record_at input.now at) }
-{
-    number_at(input, at + 1)
-}
-
 // The key of a rule: its label, its flag, and what stands behind them, as the digits of a
 // number above the states.
-pub(crate) fn rule_key(input: &[u8], facts: QueryFacts, at: usize) -> usize
+fn rule_key(input: &[u8], facts: QueryFacts, at: usize) -> usize
     requires whole_at { WholeAt input.now facts at }
     requires at_value { is_rule_kind (get_or input.now at 0) ≡ true }
     ensures { result ≡ key_of facts (record_at input.now at) }
@@ -68,6 +59,17 @@ pub(crate) fn rule_key(input: &[u8], facts: QueryFacts, at: usize) -> usize
         return first;
     }
     first + 1 + number_at(input, at + 3) * facts.states + number_at(input, at + 4)
+}
+
+// The key of a record that fits: that of an accepting state is the state, and what else fits is a rule.
+pub(crate) fn record_key(input: &[u8], facts: QueryFacts, at: usize) -> usize
+    requires { FittingAt input.now facts at }
+    ensures { result ≡ key_of facts (record_at input.now at) }
+{
+    if input[at] == ACCEPTING_STATE {
+        return number_at(input, at + 1);
+    }
+    rule_key(input, facts, at)
 }
 
 // Whether the table has a key, which is then put in.
