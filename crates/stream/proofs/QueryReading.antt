@@ -1,22 +1,22 @@
 -- The query, record by record. First what the loop over the records behind the head keeps up, and what it answers where one is refused
 -- and where the input ends; then the head, and the two together.
-use mathlib.Core.Bool.{◌&&◌, cond, false, true}
+use mathlib.Core.Bool.{cond, false, true}
 use mathlib.Core.List.{List, [], ◌++◌, ◌∷◌, append_assoc, append-nil}
 use mathlib.Core.Logic.{⊎_elim}
 use mathlib.Core.Path.{◌∙◌, ◌≡◌, ap, ap₂, refl, subst, sym}
 use Prim.Native.Nat.{◌+◌, ◌<◌, ◌≤◌, ℕ}
 use native.Mathlib.Omega.{arith}
-use borrow.Author.Tests.{eqb-true, leb-true, ltb-false, ltb-true}
-use lib.Dec.{leb, ltb}
+use borrow.Author.Tests.{eqb-true, ltb-false, ltb-true}
+use lib.Dec.{ltb}
 use lib.ListN.{drop, get_or, length, length-append}
 use lib.Seq.{slice_empty}
 use Rattle.paper.specs.Query.{accepting_of, query_of, rules_of}
 use Rattle.paper.specs.Refusals.{No, StreamTest, Test, answer, at_each, head_tests, later_tests, query_end_tests, query_part, query_tests, refused, tests_at, unless}
 use Rattle.paper.specs.Stream.{StreamRecord, behind, body_length, number, records_of}
-use Rattle.laws.proofs.Lists.{both_true, which}
+use Rattle.laws.proofs.Lists.{which}
 use Rattle.laws.proofs.ReadQuery.{rules_append}
 use Rattle.laws.proofs.Replies.{Passes, answered, answers, refused_append, unless_append}
-use Rattle.stream.specs.OneRecord.{BehindHead, head_reply, later_reply, query_with}
+use Rattle.stream.specs.OneRecord.{head_reply, later_reply, query_with}
 use Rattle.stream.specs.Positions.{WholeBetween, after, record_at, records_between}
 use Rattle.stream.specs.Reading.{QueryFacts, query_facts, query_reply}
 use Rattle.stream.proofs.EachRecord.{first_refused, passes_more}
@@ -153,18 +153,8 @@ module _ (input : List ℕ) (at : ℕ) where
     states : number head 1 ≡ facts.states
     states = ap (λ records. (query_of records).states) (sym (records_here input at inside))
 
-    -- a number of it that is tested to be 1 to n
-    at_most : (x n : ℕ) → leb 1 x && leb x n ≡ true → x ≤ n
-    at_most x n e = leb-true x n (both_true (leb 1 x) (leb x n) e).1
-
-    in_range_lem : BehindHead input facts
-    in_range_lem = record {
-      head = record {
-        few_places = omega (arith, arity, at_most (number head 0) 4 p.1.1.1.0);
-        few_states = omega (arith, states, at_most (number head 1) 16 p.1.1.1.1.0);
-      };
-      inside = omega (arith, two_numbers, whole_inside input at inside p.1.1.0);
-    }
+    records_inside : facts.rules ≤ length input
+    records_inside = omega (arith, two_numbers, whole_inside input at inside p.1.1.0)
 
     passed : query_reply input at ≡ later_reply input facts
     passed =
@@ -186,8 +176,8 @@ module _ (input : List ℕ) (at : ℕ) where
     read_head : Passes (tests_at at ((3, ltb at (length input)) ∷ head_tests head)) × (facts ≡ f)
     read_head = answered (tests_at at ((3, ltb at (length input)) ∷ head_tests head)) (sym e)
 
-    pub behind_head : BehindHead input f
-    behind_head = subst (BehindHead input) read_head.1 (in_range_lem read_head.0)
+    pub behind_head : f.rules ≤ length input
+    behind_head = subst (λ (g : QueryFacts). g.rules ≤ length input) read_head.1 (records_inside read_head.0)
 
     pub head_passed : later_reply input f ≡ query_reply input at
     head_passed = subst (λ g. later_reply input g ≡ query_reply input at) read_head.1 (sym (passed read_head.0))

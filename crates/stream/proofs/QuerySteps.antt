@@ -16,11 +16,11 @@ use Rattle.paper.specs.Refusals.{No, StreamTest, Test, in_range, is_new, later_t
 use Rattle.paper.specs.Stream.{StreamRecord, whole}
 use Rattle.laws.proofs.Lists.{both_true, only, or_right}
 use Rattle.laws.proofs.Replies.{Passes}
-use Rattle.stream.specs.Keys.{FittingAt, SaysKey, TableOf, WholeAt, has_key, key_of}
+use Rattle.stream.specs.Keys.{FittingAt, SaysKey, TableOf, has_key, key_of}
 use Rattle.stream.specs.OneRecord.{fits, query_with, whole_in_range}
 use Rattle.stream.specs.Positions.{WholeBetween, after, record_at, records_between}
 use Rattle.stream.specs.Reading.{QueryFacts}
-use Rattle.stream.proofs.Fitting.{by_kind}
+use Rattle.stream.proofs.InRange.{rule_kind}
 use Rattle.stream.proofs.Positions.{between_more, whole_inside}
 use Rattle.stream.proofs.RecordKeys.{key_below, new_key}
 
@@ -92,6 +92,7 @@ pub record Looked (input : List ℕ) (f : QueryFacts) (at : ℕ) (said : List �
 
 -- ---- one record that fits: whole records stand before it, whose keys the table has
 pub record AtFittingRecord (input : List ℕ) (f : QueryFacts) (at : ℕ) (said : List ℕ) : Type 0 where
+  pub few_states : f.states ≤ 16
   pub record_here : FittingAt input f at
   pub before : WholeBetween input f.rules at
   pub table : TableOf f (records_between input f.rules at) said
@@ -102,13 +103,6 @@ module _ (input : List ℕ) (f : QueryFacts) (at : ℕ) (k : FittingAt input f a
       let r = record_at input at in
       let p = (both_true (leb 17 r.kind && leb r.kind 19) (whole_in_range f r) k.fitting).1 in
       whole_inside input at k.here (both_true (whole r) (in_range (query_with f []) r) p).0
-
-  pub whole_at : WholeAt input f at
-  whole_at = record { head = k.head; inside = whole_record }
-
-  -- what fits and is no accepting state is a rule
-  pub a_rule : (get_or input at 0 ≡ 19 → ⊥) → is_rule_kind (get_or input at 0) ≡ true
-  a_rule other = by_kind f (record_at input at) k.fitting (ap is_rule_kind) (ap is_rule_kind) (λ e. absurd (other e))
 
 module _ (input : List ℕ) (f : QueryFacts) (at : ℕ) (said : List ℕ) (k : AtFittingRecord input f at said) where
   abbrev earlier : List StreamRecord
@@ -134,7 +128,7 @@ module _ (input : List ℕ) (f : QueryFacts) (at : ℕ) (said : List ℕ) (k : A
 
   -- with it there is one more rule, or as many as before; and there is room for it
   pub rules_with_it : (rules : ℕ) → (get_or input at 0 ≡ 19 → ⊥) → rules + 1 ≡ rules + length (rules_of (new ∷ []))
-  rules_with_it rules other = rw (a_rule input f at k.record_here other) refl
+  rules_with_it rules other = rw (rule_kind input f at k.record_here.fitting other) refl
 
   pub rules_as_before : (rules : ℕ) → get_or input at 0 ≡ 19 → rules ≡ rules + length (rules_of (new ∷ []))
   rules_as_before rules e = rw (ap is_rule_kind e) (omega arith)
@@ -142,12 +136,12 @@ module _ (input : List ℕ) (f : QueryFacts) (at : ℕ) (said : List ℕ) (k : A
   -- ---- the table
   -- it has room for the record's key
   pub key_inside : (key : ℕ) → key ≡ key_of f new → key < 64 * length said
-  key_inside key e = omega (arith, key_below f k.record_here.head.few_states new k.record_here.fitting, k.table.room)
+  key_inside key e = omega (arith, key_below f k.few_states new k.record_here.fitting, k.table.room)
 
   module _ (there : Bool) (said' : List ℕ) (l : Looked input f at said there said') where
     is_new_lem : is_new (query_with f earlier) new ≡ not there
     is_new_lem =
-        new_key f k.record_here.head.few_states earlier new k.table.fitting k.record_here.fitting
+        new_key f k.few_states earlier new k.table.fitting k.record_here.fitting
         ∙ ap not (sym (l.says.told ∙ ap (has_key said) l.its_key ∙ k.table.keys (key_of f new)))
 
     -- 4: its key was there

@@ -3,8 +3,8 @@
 use Rattle.std.specs.Prelude.{Bool, ◌||◌, cond, true, List, ◌∷◌, map, ◌≡◌, ℕ, ◌+◌, ◌*◌, ◌/◌, ◌%◌, ◌^◌, ◌<◌, ◌≤◌, eqb, get_or, length}
 use Rattle.paper.specs.Lists.{◌∈◌, has}
 use Rattle.paper.specs.Stream.{StreamRecord}
-use Rattle.stream.specs.OneRecord.{HeadInRange, fits}
-use Rattle.stream.specs.Positions.{after, record_at}
+use Rattle.stream.specs.OneRecord.{fits}
+use Rattle.stream.specs.Positions.{record_at}
 use Rattle.stream.specs.Reading.{QueryFacts}
 
 -- ---- how large it gets
@@ -74,13 +74,7 @@ pub record TableOf (f : QueryFacts) (records : List StreamRecord) (said : List �
   pub fitting : (r : StreamRecord) → r ∈ records → fits f r ≡ true
   pub keys : (k : ℕ) → has_key said k ≡ has (map (key_of f) records) k
 
--- a record that fits stands at the position, behind a head whose numbers are in range
+-- a record that fits stands at the position
 pub record FittingAt (input : List ℕ) (f : QueryFacts) (at : ℕ) : Type 0 where
-  pub head : HeadInRange f
   pub here : at < length input
   pub fitting : fits f (record_at input at) ≡ true
-
--- a whole record stands at the position, behind a head whose numbers are in range
-pub record WholeAt (input : List ℕ) (f : QueryFacts) (at : ℕ) : Type 0 where
-  pub head : HeadInRange f
-  pub inside : after input at ≤ length input

@@ -1,5 +1,5 @@
 -- One record of the tree, or of the query, after those before it: the state that a loop carries, and what one step answers.
-use Rattle.std.specs.Prelude.{Bool, ◌&&◌, List, [], ◌∷◌, ◌≡◌, ℕ, ◌≤◌, ◌<◌, leb, ltb, length, get_or, drop}
+use Rattle.std.specs.Prelude.{Bool, ◌&&◌, List, [], ◌∷◌, ◌≡◌, ℕ, ◌<◌, leb, ltb, length, get_or, drop}
 use Rattle.paper.specs.Stream.{StreamRecord, whole, records_of, is_tree_kind}
 use Rattle.paper.specs.Query.{Query, rules_of, accepting_of}
 use Rattle.paper.specs.Refusals.{Reply, unless, tests_at, at_each, head_tests, later_tests, in_range}
@@ -28,21 +28,10 @@ whole_in_range f r = whole r && in_range (query_with f []) r
 abbrev pub fits : QueryFacts → StreamRecord → Bool
 fits f r = (leb 17 r.kind && leb r.kind 19) && whole_in_range f r
 
--- a record of this kind stands at the position, behind a head whose arity is in range
-pub record AtKind (input : List ℕ) (f : QueryFacts) (at k : ℕ) : Type 0 where
-  pub few_places : f.arity ≤ 4
+-- a record of this kind stands at the position
+pub record AtKind (input : List ℕ) (at k : ℕ) : Type 0 where
   pub here : at < length input
   pub kind : get_or input at 0 ≡ k
-
--- the numbers of a head that was read are in range
-pub record HeadInRange (f : QueryFacts) : Type 0 where
-  pub few_places : f.arity ≤ 4
-  pub few_states : f.states ≤ 16
-
--- and the records behind it begin in the input, or at its end
-pub record BehindHead (input : List ℕ) (f : QueryFacts) : Type 0 where
-  pub head : HeadInRange f
-  pub inside : f.rules ≤ length input
 
 -- all records behind a head with these facts
 abbrev pub later_reply : List ℕ → QueryFacts → Reply QueryFacts

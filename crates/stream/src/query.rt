@@ -1,12 +1,12 @@
 // The query: refusals 3 and 4, or its numbers. First the records behind the head, then the query with
 // its head.
-ghost use Rattle.std.specs.Prelude.{[], ◌≡◌, ◌*◌, ◌≤◌};
-ghost use Rattle.stream.specs.OneRecord.{BehindHead, later_reply};
+ghost use Rattle.std.specs.Prelude.{[], ◌≡◌, ◌*◌, ◌≤◌, length};
+ghost use Rattle.stream.specs.OneRecord.{later_reply};
 ghost use Rattle.stream.specs.Keys.{TableOf, keys_of, word_bits, large_table};
 ghost use Rattle.stream.specs.Reading.{says_query, query_reply};
 
 use crate::fits::record_fits;
-use crate::head::{QueryFacts, query_head};
+use crate::head::{QueryFacts, QueryHead};
 use crate::keys::{WORD_BITS, number_of_keys, record_key, say};
 use crate::lengths::body_length;
 use paper::StreamRefusal;
@@ -15,22 +15,18 @@ use paper::limits::MOST_RULES;
 
 // All records behind the head, with a table that has no key yet. There may be none: a query with no
 // rule, or with no accepting state, gives the empty set.
-fn each_record(
-    input: &[u8],
-    facts: QueryFacts,
-    said: &mut [u64],
-) -> Result<QueryFacts, StreamRefusal>
-    requires behind_head { BehindHead input.now facts }
-    requires table_of { TableOf facts [] said.old }
-    ensures { says_query result ≡ later_reply input.now facts }
+fn each_record(input: &[u8], head: QueryHead, said: &mut [u64]) -> Result<QueryFacts, StreamRefusal>
+    requires inside { head.facts.rules ≤ length input.now }
+    requires table_of { TableOf head.facts [] said.old }
+    ensures { says_query result ≡ later_reply input.now head.facts }
 {
-    let mut at = facts.rules;
+    let mut at = head.facts.rules;
     let mut rules = 0;
     // Ends with the input, or by the first record at fault. A turn steps over one record that is
     // whole, so never behind the end.
     while at < input.len() {
         // 3 before 4: whether a record fits is asked before what the earlier ones say.
-        if !record_fits(input, facts, at) {
+        if !record_fits(input, head, at) {
             return Err(StreamRefusal::Query(at));
         }
         // What fits and is no accepting state is a rule of either kind.
@@ -40,12 +36,12 @@ fn each_record(
             }
             rules += 1;
         }
-        if say(said, record_key(input, facts, at)) {
+        if say(said, record_key(input, head, at)) {
             return Err(StreamRefusal::Twice(at));
         }
         at += 1 + body_length(input[at]);
     }
-    Ok(facts)
+    Ok(head.facts)
 }
 
 // The words of three tables. A table is cleared whole where it is made, and that is not to be felt by
@@ -60,36 +56,36 @@ const LARGE_TABLE: usize = 4113;
 // All records behind the head, with a new table of so many words.
 fn with_table<const WORDS: usize>(
     input: &[u8],
-    facts: QueryFacts,
+    head: QueryHead,
 ) -> Result<QueryFacts, StreamRefusal>
-    requires behind_head { BehindHead input.now facts }
-    requires room { keys_of facts ≤ word_bits * WORDS }
+    requires inside { head.facts.rules ≤ length input.now }
+    requires room { keys_of head.facts ≤ word_bits * WORDS }
     requires words_bound { WORDS ≤ large_table }
-    ensures { says_query result ≡ later_reply input.now facts }
+    ensures { says_query result ≡ later_reply input.now head.facts }
 {
     let mut said: [u64; WORDS] = [0; WORDS];
-    each_record(input, facts, &mut said)
+    each_record(input, head, &mut said)
 }
 
 // All records behind the head, with the least table that does.
-fn later_records(input: &[u8], facts: QueryFacts) -> Result<QueryFacts, StreamRefusal>
-    requires { BehindHead input.now facts }
-    ensures { says_query result ≡ later_reply input.now facts }
+fn later_records(input: &[u8], head: QueryHead) -> Result<QueryFacts, StreamRefusal>
+    requires { head.facts.rules ≤ length input.now }
+    ensures { says_query result ≡ later_reply input.now head.facts }
 {
-    let keys = number_of_keys(facts);
+    let keys = number_of_keys(head);
     if keys <= WORD_BITS * SMALL_TABLE {
-        return with_table::<SMALL_TABLE>(input, facts);
+        return with_table::<SMALL_TABLE>(input, head);
     }
     if keys <= WORD_BITS * MIDDLE_TABLE {
-        return with_table::<MIDDLE_TABLE>(input, facts);
+        return with_table::<MIDDLE_TABLE>(input, head);
     }
-    with_table::<LARGE_TABLE>(input, facts)
+    with_table::<LARGE_TABLE>(input, head)
 }
 
 // All of the query whose head stands at a position: refusals 3 and 4.
 pub fn read_query(input: &[u8], at: usize) -> Result<QueryFacts, StreamRefusal>
     ensures { says_query result ≡ query_reply input.now at }
 {
-    let facts = query_head(input, at)?;
-    later_records(input, facts)
+    let head = QueryHead::read(input, at)?;
+    later_records(input, head)
 }

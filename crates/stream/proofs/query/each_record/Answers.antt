@@ -2,19 +2,21 @@
 use Rattle.std.proofs.Common.{true, ◌≡◌, ◌+◌, ◌∙◌, [], ◌∷◌, length, sym, arith}
 use Rattle.paper.specs.Query.{rules_of}
 use Rattle.stream.specs.Positions.{after, record_at}
+use Rattle.stream.proofs.InRange.{rule_kind}
 use Rattle.stream.proofs.QueryReading.{query_ends, query_goes_on, query_refused}
-use Rattle.stream.proofs.QuerySteps.{AtFittingRecord, Looked, a_rule, few_rules, key_inside, many_rules, no_fit, no_rule, room, rules_as_before, rules_with_it, said_first, said_twice, table_next}
+use Rattle.stream.proofs.QuerySteps.{AtFittingRecord, Looked, few_rules, key_inside, many_rules, no_fit, no_rule, room, rules_as_before, rules_with_it, said_first, said_twice, table_next}
 use Rattle.stream.proofs.query.each_record.Goals as goal
 use Rattle.stream.proofs.query.each_record.Goals.{After-record_key, After-say, Else-not-record_fits, else-input-at-ne-ACCEPTING_STATE, then-input-at-ne-ACCEPTING_STATE+else-rules-ge-MOST_RULES}
 
 pub returns-then-not-record_fits : goal.returns-then-not-record_fits
 returns-then-not-record_fits c =
-    query_refused _ _ _ _ c.loop-at.invariant.0 c.loop-at-test.true (no_fit c.args.input.now c.args.facts _ (sym c.if-not-record_fits.ensures))
+    query_refused _ _ _ _ c.loop-at.invariant.0 c.loop-at-test.true (no_fit c.args.input.now c.args.head.facts _ (sym c.if-not-record_fits.ensures))
 
 -- behind that test the record fits
-fitting : (c : Else-not-record_fits) → AtFittingRecord c.args.input.now c.args.facts c.loop-at.at c.loop-at.said
+fitting : (c : Else-not-record_fits) → AtFittingRecord c.args.input.now c.args.head.facts c.loop-at.at c.loop-at.said
 fitting c = record {
-  record_here = record { head = c.requires.behind_head.head; here = c.loop-at-test.true; fitting = sym c.if-not-record_fits.ensures };
+  few_states = c.args.head.few_states;
+  record_here = record { here = c.loop-at-test.true; fitting = sym c.if-not-record_fits.ensures };
   before = c.loop-at.invariant.0.before;
   table = c.loop-at.invariant.1;
 }
@@ -23,7 +25,7 @@ pub returns-then-rules-ge-MOST_RULES : goal.returns-then-rules-ge-MOST_RULES
 returns-then-rules-ge-MOST_RULES c =
     let k = fitting (goal.at.returns-then-rules-ge-MOST_RULES c).Else-not-record_fits in
     query_refused _ _ _ _ c.loop-at.invariant.0 c.loop-at-test.true
-    (many_rules _ _ _ _ k (a_rule _ _ _ k.record_here c.if-input-at-ne-ACCEPTING_STATE.true) (omega (arith, c.loop-at.invariant.0.rules_are)))
+    (many_rules _ _ _ _ k (rule_kind c.args.input.now c.args.head.facts c.loop-at.at k.record_here.fitting c.if-input-at-ne-ACCEPTING_STATE.true) (omega (arith, c.loop-at.invariant.0.rules_are)))
 
 -- it is no rule too many, and is counted if it is one
 counted : (c : After-record_key)
@@ -46,7 +48,7 @@ pub say-requires : goal.say-requires
 say-requires c = key_inside _ _ _ _ (fitting (goal.at.say-requires c).Else-not-record_fits) _ c.record_key.ensures
 
 -- its key is looked up
-looked : (c : After-say) → Looked c.args.input.now c.args.facts c.loop-at.at c.loop-at.said c.say.result c.say.new.said
+looked : (c : After-say) → Looked c.args.input.now c.args.head.facts c.loop-at.at c.loop-at.said c.say.result c.say.new.said
 looked c = record { key = _; its_key = c.record_key.ensures; says = c.say.ensures; long = c.say.auto.said }
 
 pub returns-then-say : goal.returns-then-say
