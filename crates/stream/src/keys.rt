@@ -13,18 +13,20 @@ use paper::limits::MOST_STATES;
 // Bits of a word of the table.
 pub(crate) const WORD_BITS: usize = 64;
 
-// What can stand behind a rule's label and flag: nothing in a leaf rule, two states in a branch rule.
-fn ends(head: QueryHead) -> usize
-    ensures { (result ≡ ends_of head.facts) × (result ≤ most_ends) }
-{
-    1 + head.facts.states * head.facts.states
-}
+impl QueryHead {
+    // What can stand behind a rule's label and flag: nothing in a leaf rule, two states in a branch rule.
+    fn ends(self) -> usize
+        ensures { (result ≡ ends_of self.facts) × (result ≤ most_ends) }
+    {
+        1 + self.facts.states * self.facts.states
+    }
 
-// The keys of the query. Its own arity and states are the radices, so that a small query has few.
-pub(crate) fn number_of_keys(head: QueryHead) -> usize
-    ensures { (result ≡ keys_of head.facts) × (result ≤ most_keys) }
-{
-    MOST_STATES + LABELS * head.flags() * ends(head)
+    // The keys of the query. Its own arity and states are the radices, so that a small query has few.
+    pub(crate) fn number_of_keys(self) -> usize
+        ensures { (result ≡ keys_of self.facts) × (result ≤ most_keys) }
+    {
+        MOST_STATES + LABELS * self.flags() * self.ends()
+    }
 }
 
 // A byte as a number, in a function of its own so that the cast is proved once.
@@ -43,7 +45,7 @@ fn rule_key(input: &[u8], head: QueryHead, at: usize) -> usize
     ensures { result ≡ key_of head.facts (record_at input.now at) }
 {
     let label_and_flag = number_at(input, at + 1) * head.flags() + number_at(input, at + 2);
-    let first = MOST_STATES + label_and_flag * ends(head);
+    let first = MOST_STATES + label_and_flag * head.ends();
     if input[at] == LEAF_RULE {
         return first;
     }

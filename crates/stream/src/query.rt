@@ -7,7 +7,7 @@ ghost use Rattle.stream.specs.Reading.{says_query, query_reply};
 
 use crate::fits::record_fits;
 use crate::head::{QueryFacts, QueryHead};
-use crate::keys::{WORD_BITS, number_of_keys, record_key, say};
+use crate::keys::{WORD_BITS, record_key, say};
 use crate::lengths::body_length;
 use paper::StreamRefusal;
 use paper::kinds::ACCEPTING_STATE;
@@ -72,7 +72,7 @@ fn later_records(input: &[u8], head: QueryHead) -> Result<QueryFacts, StreamRefu
     requires { head.facts.rules ≤ length input.now }
     ensures { says_query result ≡ later_reply input.now head.facts }
 {
-    let keys = number_of_keys(head);
+    let keys = head.number_of_keys();
     if keys <= WORD_BITS * SMALL_TABLE {
         return with_table::<SMALL_TABLE>(input, head);
     }
