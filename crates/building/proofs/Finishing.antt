@@ -7,7 +7,6 @@ use native.Mathlib.Omega.{arith}
 use borrow.Author.Tests.{le-leb}
 use lib.ListN.{drop, length, length-replicate, replicate}
 use lib.Pow.{pow_pos}
-use lib.Seq.{paste, take_all}
 use Rattle.paper.specs.Answers.{told}
 use Rattle.paper.specs.Refusals.{answer, build, head_from, made_from, over, query_part, refused, tree_part, work_after, work_for, no, tree_end}
 use Rattle.paper.specs.Stream.{query_records, records_of, tree_records}
@@ -84,20 +83,18 @@ module _ (input : List ℕ) (t : State) (all : List Record) (s : Stopped input t
         }
 
     -- the work: the part that is asked for is zero, and the rest as it was at first
-    cleared : (work work' : List ℕ) → drop t.asked work ≡ drop t.asked first → work' ≡ paste work 0 (replicate t.asked 0) t.asked
+    cleared : (work work' : List ℕ) → drop t.asked work ≡ drop t.asked first → work' ≡ replicate t.asked 0 ++ drop t.asked work
         → work' ≡ over (replicate (work_for input) 0) first
     cleared work work' rest e =
         let n : ℕ = t.asked in
         e
-        ∙ ap (λ zeros. zeros ++ drop (0 + n) work) (take_all n (replicate n 0) (omega (arith, length-replicate {A = ℕ} n 0)))
-        ∙ ap (λ m. replicate n 0 ++ drop m work) (let z : 0 + n ≡ n = omega arith in z)
         ∙ ap (λ more. replicate n 0 ++ more) rest
         ∙ ap (λ m. replicate n 0 ++ drop m first) (sym (length-replicate n 0))
         ∙ ap (λ m. over (replicate m 0) first) s.constants.asked
 
     -- ---- both
     module _ (work work' : List ℕ) (rest : drop t.asked work ≡ drop t.asked first)
-        (e : work' ≡ paste work 0 (replicate t.asked 0) t.asked) where
+        (e : work' ≡ replicate t.asked 0 ++ drop t.asked work) where
       pub finished_refused : t.over ≡ true
           → (refused (no 6) ≡ told {B = Head} (λ a. a.0) (build input (length first) entries))
           × (work' ≡ work_after (build input (length first) entries) (work_for input) first)

@@ -2,7 +2,7 @@
 // `build` makes that blank, if it must.
 ghost use Rattle.building.specs.Answer.{Ended, Finishes};
 
-use crate::frame::{clear, flags};
+use crate::frame::flags;
 use crate::state::State;
 use paper::{Built, Head, Refusal, StreamRefusal};
 use table::set_of;
@@ -12,7 +12,7 @@ pub(crate) fn finish(t: State, work: &mut [u64]) -> Built
     requires { Ended t work.old }
     ensures { Finishes t work.old result work.new }
 {
-    clear(&mut *work, 0, t.asked as usize);
+    work[..t.asked as usize].fill(0);
     if t.over {
         return Built::Refused(StreamRefusal::Other(Refusal::ShortTable));
     }

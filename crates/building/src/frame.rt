@@ -2,9 +2,7 @@
 // for the present node. A frame has a shelf for each state, and a shelf a slot for each flag.
 // Frames are of one size and stand one behind the other from the start of the work, and so do the shelves
 // of a frame: no two overlap, and what is written in one leaves the others.
-// First where they stand, then the two ways to write many numbers at once.
-ghost use Rattle.std.specs.Prelude.{◌≡◌, ◌+◌, ◌*◌, ◌^◌, ◌≤◌, ◌<◌, length, drop, replicate};
-ghost use Rattle.std.proofs.Math.Seq.{paste};
+ghost use Rattle.std.specs.Prelude.{◌≡◌, ◌+◌, ◌*◌, ◌^◌, ◌≤◌};
 ghost use Rattle.building.specs.Bounds.{most_frames, most_places, most_states};
 ghost use Rattle.building.specs.Frames.{width};
 
@@ -41,29 +39,4 @@ pub(crate) fn shelf_at(arity: usize, states: usize, frame: usize, state: usize) 
     ensures { result ≡ frame * width arity states + state * 2 ^ arity }
 {
     frame_at(arity, states, frame) + state * flags(arity)
-}
-
-// So many numbers, set to 0: no slot has a set then, and none is marked.
-pub(crate) fn clear(work: &mut [u64], from: usize, n: usize)
-    requires { from + n ≤ length work.old }
-    ensures { work.new ≡ paste work.old from (replicate n 0) n }
-{
-    let mut i = 0;
-    while i < n {
-        work[from + i] = 0;
-        i += 1;
-    }
-}
-
-// So many numbers, copied to a place before them. The two parts do not overlap, so that none is written
-// over before it is copied. The loop ends when i has come to n.
-pub(crate) fn copy_down(work: &mut [u64], from: usize, to: usize, n: usize)
-    requires { (to + n ≤ from) × (from + n ≤ length work.old) }
-    ensures { work.new ≡ paste work.old to (drop from work.old) n }
-{
-    let mut i = 0;
-    while i < n {
-        work[to + i] = work[from + i];
-        i += 1;
-    }
 }

@@ -10,7 +10,7 @@ ghost use Rattle.building.specs.Listed.{Listed};
 ghost use Rattle.building.specs.Standing.{IsStanding, IsFilling, Turned};
 
 use crate::batch::WAITING_RECORDS;
-use crate::frame::{clear, copy_down, flags, frame_at, frame_width, shelf_at};
+use crate::frame::{flags, frame_at, frame_width, shelf_at};
 use crate::rule::{Branch, branch_rule, can_stand, leaf_rule};
 use crate::state::{State, count_records};
 use paper::kinds::{LEAF, RULE_ABOVE};
@@ -116,7 +116,7 @@ fn join_frames(t: State, input: &[u8], work: &mut [u64]) -> usize
     // There are two below: the tree was read, and a branch with fewer than two unjoined is refused with 1.
     let from = frame_at(t.arity, t.states, t.top);
     let to = frame_at(t.arity, t.states, t.top - 2);
-    copy_down(&mut *work, from, to, frame_width(t.arity, t.states));
+    work.copy_within(from..from + frame_width(t.arity, t.states), to);
     t.top - 1
 }
 
@@ -127,7 +127,7 @@ pub(crate) fn start_node(t: State, input: &[u8], lists: &[u16], work: &mut [u64]
     ensures { HasCome input.now t work.old result work.new }
 {
     let from = frame_at(t.arity, t.states, t.top);
-    clear(&mut *work, from, frame_width(t.arity, t.states));
+    work[from..from + frame_width(t.arity, t.states)].fill(0);
     let at = t.at;
     let mut next = t;
     next.rule = first_rule(lists, input[at] + RULE_ABOVE, input[at + 1]);

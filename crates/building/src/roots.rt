@@ -43,8 +43,8 @@ fn unite_root(
     )
 }
 
-// All states, ascending. The loop ends at the last. It makes at most one record a state, so at most 16: a
-// batch that has room for another rule has room for these.
+// All states, ascending. Each makes at most one record, so that there are at most 16: a batch that has room
+// for another rule has room for these.
 fn unite_roots(t: State, lists: &[u16], work: &[u64], batch: &mut [u16]) -> Made
     requires stands_listed { StandsListed t lists.now work.now }
     requires batch_numbers_in_bounds { (batch_numbers ≤ length batch.old) × (t.count ≤ waiting_records) }
@@ -54,10 +54,8 @@ fn unite_roots(t: State, lists: &[u16], work: &[u64], batch: &mut [u16]) -> Made
         count: t.count,
         set: EMPTY,
     };
-    let mut state = 0;
-    while state < t.states {
-        made = unite_root(t, lists, work, &mut *batch, made, state);
-        state += 1;
+    for state in 0..t.states {
+        made = unite_root(t, lists, work, batch, made, state);
     }
     made
 }

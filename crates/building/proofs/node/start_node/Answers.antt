@@ -1,6 +1,7 @@
 -- `node::start_node` clears the node's frame and looks its first rule up in the lists.
 use Rattle.std.proofs.Common.{arith, refl}
 use Rattle.building.proofs.NextNode.{coming_ready, has_come}
+use Rattle.building.proofs.Pasting.{filled}
 use Rattle.building.proofs.node.start_node.Goals as goal
 
 pub frame_at-from-requires-clause-arity_le_most_places : goal.frame_at-from-requires-clause-arity_le_most_places
@@ -12,12 +13,22 @@ frame_at-from-requires-clause-frame_le_most_frames c = let r = coming_ready _ _ 
 pub frame_width-requires : goal.frame_width-requires
 frame_width-requires c = let r = coming_ready _ _ _ _ c.requires.0.1 in (r.arity, omega (arith, r.states))
 
-pub clear-requires : goal.clear-requires
-clear-requires c = let r = coming_ready _ _ _ _ c.requires.0.1 in omega (arith, r.frame, c.frame_at-from.ensures, c.frame_width.ensures)
+pub overflow_add-from : goal.overflow_add-from
+overflow_add-from c = let r = coming_ready _ _ _ _ c.requires.0.1 in omega (arith, r.frame, c.frame_at-from.ensures, c.frame_width.ensures)
+
+pub offset_bounds-work-from : goal.offset_bounds-work-from
+offset_bounds-work-from c = let r = coming_ready _ _ _ _ c.requires.0.1 in omega (arith, r.frame, c.frame_at-from.ensures, c.frame_width.ensures)
+
+pub slice_bounds-fill-end : goal.slice_bounds-fill-end
+slice_bounds-fill-end c = let r = coming_ready _ _ _ _ c.requires.0.1 in omega (arith, r.frame, c.frame_at-from.ensures, c.frame_width.ensures)
 
 pub overflow_add-input : goal.overflow_add-input
 overflow_add-input c = let r = coming_ready _ _ _ _ c.requires.0.1 in omega (arith, r.kind)
 
 pub returns : goal.returns
 returns c made s =
-    has_come _ _ _ made s c.requires.1 c.frame_at-from.ensures c.frame_width.ensures c.clear.ensures refl refl c.first_rule.ensures refl
+    has_come _ _ _ made s c.requires.1 c.frame_at-from.ensures c.frame_width.ensures
+    (let r = coming_ready _ _ _ _ c.requires.0.1 in
+    filled c.args.work.now c.fill.new.self c.frame_at-from.result c.frame_width.result
+    (omega (arith, r.frame, c.frame_at-from.ensures, c.frame_width.ensures)) (c.fill.ensures.after (λ y e. e)))
+    refl refl c.first_rule.ensures refl

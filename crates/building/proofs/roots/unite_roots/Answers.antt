@@ -7,7 +7,6 @@ pub loop-state-preserved : goal.loop-state-preserved
 loop-state-preserved c =
     let next = c.unite_root-made.ensures in
     record {
-      within = omega arith;
       more = next.more;
       few = next.few;
       at_hand = next.at_hand;
