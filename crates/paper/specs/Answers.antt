@@ -1,26 +1,9 @@
--- Each answer enum, case by case: the paper's number of a refusal with the position that 1 to 4 have, and the value of an answer.
-use Rattle.std.specs.Prelude.{Bool, true, false, ℕ}
-use Rattle.std.proofs.Math.Option.{Option, none, some}
+-- The paper's number of each refusal, with the position that 1 to 4 have, and what each call's answer says, which is a `Result`.
+use Rattle.std.specs.Prelude.{Bool, ℕ, Result, Ok, Err}
 pub use Rattle.paper.specs.declared.Refusal.{Refusal}
 use Rattle.paper.specs.declared.Refusal.TheVariants.{ShortWork, ShortTable, Place, Node, RowNumber, ShortOutput, NotSound, UnitTwice, RowLength, LongInput, Text}
 pub use Rattle.paper.specs.declared.StreamRefusal.{StreamRefusal}
 use Rattle.paper.specs.declared.StreamRefusal.TheVariants.{Tree, ManyNodes, Query, Twice, Other}
-pub use Rattle.paper.specs.declared.Position.{Position}
-use Rattle.paper.specs.declared.Position.TheVariants as PositionIs
-pub use Rattle.paper.specs.declared.Built.{Built}
-use Rattle.paper.specs.declared.Built.TheVariants as BuiltIs
-pub use Rattle.paper.specs.declared.Counted.{Counted}
-use Rattle.paper.specs.declared.Counted.TheVariants as CountedIs
-pub use Rattle.paper.specs.declared.Written.{Written}
-use Rattle.paper.specs.declared.Written.TheVariants as WrittenIs
-pub use Rattle.paper.specs.declared.Member.{Member}
-use Rattle.paper.specs.declared.Member.TheVariants as MemberIs
-pub use Rattle.paper.specs.declared.Projected.{Projected}
-use Rattle.paper.specs.declared.Projected.TheVariants as ProjectedIs
-pub use Rattle.paper.specs.declared.Fixed.{Fixed}
-use Rattle.paper.specs.declared.Fixed.TheVariants as FixedIs
-pub use Rattle.paper.specs.declared.Converted.{Converted}
-use Rattle.paper.specs.declared.Converted.TheVariants as ConvertedIs
 use Rattle.paper.specs.Records.{Head}
 use Rattle.paper.specs.Refusals.{No, no, no_at, Reply, refused, answer}
 
@@ -49,42 +32,36 @@ no_of_stream (Query position) = no_at 3 position
 no_of_stream (Twice position) = no_at 4 position
 no_of_stream (Other r) = no_of r
 
--- where a refusal says that the input is at fault, if it does
-abbrev pub says_position : Position → Option ℕ
-says_position (PositionIs.At p) = some p
-says_position PositionIs.None = none
+-- what a result says: its answer, or what its refusal says
+abbrev pub says : {A E : Type 0} → (E → No) → Result A E → Reply A
+says said (Ok a) = answer a
+says said (Err why) = refused (said why)
 
-abbrev pub says_built : Built → Reply Head
-says_built (BuiltIs.Set h) = answer h
-says_built (BuiltIs.Refused r) = refused (no_of_stream r)
+abbrev pub says_built : Result Head StreamRefusal → Reply Head
+says_built = says no_of_stream
 
-abbrev pub says_counted : Counted → Reply ℕ
-says_counted (CountedIs.Rows n) = answer n
-says_counted (CountedIs.Refused r) = refused (no_of r)
+-- how many rows are listed
+abbrev pub says_counted : Result ℕ Refusal → Reply ℕ
+says_counted = says no_of
 
 -- the row stands in the output
-abbrev pub says_written : Written → Reply (Unit {0})
-says_written WrittenIs.Row = answer tt
-says_written (WrittenIs.Refused r) = refused (no_of r)
+abbrev pub says_written : Result (Unit {0}) Refusal → Reply (Unit {0})
+says_written = says no_of
 
-abbrev pub says_member : Member → Reply Bool
-says_member MemberIs.Listed = answer true
-says_member MemberIs.NotListed = answer false
-says_member (MemberIs.Refused r) = refused (no_of r)
+-- whether the row is listed
+abbrev pub says_member : Result Bool Refusal → Reply Bool
+says_member = says no_of
 
 -- the marks stand in the output
-abbrev pub says_projected : Projected → Reply (Unit {0})
-says_projected ProjectedIs.Marks = answer tt
-says_projected (ProjectedIs.Refused r) = refused (no_of r)
+abbrev pub says_projected : Result (Unit {0}) Refusal → Reply (Unit {0})
+says_projected = says no_of
 
-abbrev pub says_fixed : Fixed → Reply Head
-says_fixed (FixedIs.Set h) = answer h
-says_fixed (FixedIs.Refused r) = refused (no_of r)
+abbrev pub says_fixed : Result Head Refusal → Reply Head
+says_fixed = says no_of
 
 -- how many bytes the result has; they stand in the output
-abbrev pub says_converted : Converted → Reply ℕ
-says_converted (ConvertedIs.Bytes n) = answer n
-says_converted (ConvertedIs.Refused r) = refused (no_of r)
+abbrev pub says_converted : Result ℕ Refusal → Reply ℕ
+says_converted = says no_of
 
 -- what of an answer is told, where the rest stands in a lent buffer
 abbrev pub told : {A B : Type 0} → (A → B) → Reply A → Reply B

@@ -17,3 +17,4 @@ pub mod Image
 pub mod Conversions
 pub mod PadCases
 pub mod PositionCases
+pub mod Kinds

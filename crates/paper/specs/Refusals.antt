@@ -1,8 +1,7 @@
 -- 'Numbers that say no': for each call its tests in the paper's order, each with the number given where it is the first to fail, and of the
 -- stream with the position (request 2026-04).
 -- Then what every call leaves behind.
-use Rattle.std.specs.Prelude.{Bool, true, false, cond, not, ◌&&◌, ◌||◌, List, [], ◌∷◌, ◌++◌, ℕ, suc, ◌^◌, ◌-◌, eqb, ltb, leb, length, drop, replicate}
-use Rattle.std.proofs.Math.Option.{Option, none, some}
+use Rattle.std.specs.Prelude.{Bool, true, false, cond, not, ◌&&◌, ◌||◌, List, [], ◌∷◌, ◌++◌, ℕ, suc, ◌^◌, ◌-◌, eqb, ltb, leb, length, drop, replicate, Option, Some, None}
 use Rattle.paper.specs.Lists.{is_nil, has, same, all_below}
 use Rattle.paper.specs.Stream.{StreamRecord, number, whole, records_of, behind, tree_records, query_records}
 use Rattle.paper.specs.Tree.{Tree, unjoined, most_unjoined, tree_of}
@@ -23,8 +22,8 @@ number_in (no n) = n
 number_in (no_at n p) = n
 
 abbrev pub position_in : No → Option ℕ
-position_in (no n) = none
-position_in (no_at n p) = some p
+position_in (no n) = None
+position_in (no_at n p) = Some p
 
 -- an answer, or what says no
 pub data Reply (A : Type 0) : Type 0 where

@@ -21,6 +21,38 @@ pub const ACCEPTING_STATE: u8 = 19;
 // A rule's kind is so much above the kind of its nodes.
 pub const RULE_ABOVE: u8 = 16;
 
+// The kinds of the table's records. Each has a number there, since C lends the table.
+#[derive(Clone, Copy, Debug, PartialEq, Eq)]
+pub enum RecordKind {
+    // The node at each place of the flag.
+    Single = 1,
+    // The left rows, then the right ones.
+    Union = 2,
+    // For each left row every right one.
+    Product = 3,
+}
+
+// A number that is no record's kind: a blank entry has 0, and a table that a caller lends may have any.
+#[derive(Clone, Copy, Debug, PartialEq, Eq)]
+pub struct UnknownKind;
+
+impl TryFrom<u16> for RecordKind {
+    ghost use Rattle.paper.specs.Kinds.{Decodes};
+
+    type Error = UnknownKind;
+
+    ghost try_from_gives = { Decodes };
+
+    fn try_from(number: u16) -> Result<RecordKind, UnknownKind> {
+        match number {
+            1 => Ok(RecordKind::Single),
+            2 => Ok(RecordKind::Union),
+            3 => Ok(RecordKind::Product),
+            _ => Err(UnknownKind),
+        }
+    }
+}
+
 // A single: the node at each place of the flag.
 pub const SINGLE: u16 = 1;
 
