@@ -15,8 +15,8 @@ use Rattle.building.proofs.LeafTurn.{LeafReady, leaf_onward, leaf_passed, leaf_r
 use Rattle.building.proofs.ListedRules.{next_listed, rule_behind}
 use Rattle.building.proofs.OwnShelf.{Onward}
 use Rattle.building.proofs.RuleLoop.{Ran, ran_ends, ran_onward, ran_starts}
-use Rattle.building.proofs.node.leaf_rules.Goals as goal
-use Rattle.building.proofs.node.leaf_rules.Goals.{then-can_stand, else-can_stand, then-loop-rule-test+else-count-le-WAITING_RECORDS, else-loop-rule-test}
+use Rattle.building.proofs.state.State.leaf_rules.Goals as goal
+use Rattle.building.proofs.state.State.leaf_rules.Goals.{then-can_stand, else-can_stand, then-loop-rule-test+else-count-le-WAITING_RECORDS, else-loop-rule-test}
 
 module _ {input work work' batch' : List ℕ} {t : State} {base : List Record} {count rule : ℕ}
     (r : Ran input t work base count rule work' batch') (h : rule < length input) (leaf : get_or input t.at 0 ≡ leaf_kind) where
@@ -53,18 +53,13 @@ pub bounds-input-rule-then-can_stand : goal.bounds-input-rule-then-can_stand
 bounds-input-rule-then-can_stand c =
     omega (arith, (ready (c.loop-rule.invariant _ c.requires.filling.0.1) c.loop-rule-test.true c.requires.rule_in_bounds.1).rule)
 
-pub shelf_at-to-requires-clause-arity_le_most_places : goal.shelf_at-to-requires-clause-arity_le_most_places
-shelf_at-to-requires-clause-arity_le_most_places c =
-    let r = ready (c.loop-rule.invariant _ c.requires.filling.0.1) c.loop-rule-test.true c.requires.rule_in_bounds.1 in
-    (r.node.arity, r.node.states)
-
-pub shelf_at-to-requires-clause-frame_le_most_frames : goal.shelf_at-to-requires-clause-frame_le_most_frames
-shelf_at-to-requires-clause-frame_le_most_frames c =
+pub shelf_at-to-requires : goal.shelf_at-to-requires
+shelf_at-to-requires c =
     let r = ready (c.loop-rule.invariant _ c.requires.filling.0.1) c.loop-rule-test.true c.requires.rule_in_bounds.1 in
     (omega (arith, r.node.frames), omega (arith, r.state))
 
-pub overflow_cast-t : goal.overflow_cast-t
-overflow_cast-t c =
+pub overflow_cast-self : goal.overflow_cast-self
+overflow_cast-self c =
     omega (arith, (ready (c.loop-rule.invariant _ c.requires.filling.0.1) c.loop-rule-test.true c.requires.rule_in_bounds.1).node.nodes)
 
 pub leaf_rule-count-requires-clause-flag_lt_most_flags : goal.leaf_rule-count-requires-clause-flag_lt_most_flags
@@ -79,14 +74,14 @@ pub overflow_sub-rule : goal.overflow_sub-rule
 overflow_sub-rule c =
     let l = c.loop-rule in
     let r = l.invariant c.requires.filling.0.0 c.requires.filling.0.1 in
-    rule_behind c.args.input.now (more c.args.t l.count l.rule) l.work _ r.standing c.loop-rule-test.true c.requires.filling.1
+    rule_behind c.args.input.now (more c.args.self.now l.count l.rule) l.work _ r.standing c.loop-rule-test.true c.requires.filling.1
 
 pub loop-rule-preserved : goal.loop-rule-preserved
 loop-rule-preserved c base f =
     let a = c.args in
     let l = c.loop-rule in
     let r = l.invariant base f in
-    let next = λ (count : ℕ) (work batch : List ℕ). Onward a.input.now (more a.t l.count l.rule) l.work base count c.rule_after-rule.result work batch in
+    let next = λ (count : ℕ) (work batch : List ℕ). Onward a.input.now (more a.self.now l.count l.rule) l.work base count c.rule_after-rule.result work batch in
     ran_onward _ _ _ _ base f c.requires.batch_numbers_in_bounds.1 r c.if-count-le-WAITING_RECORDS.true
     (elim c.if-can_stand.branch [
       | then-can_stand w ↦
@@ -119,4 +114,4 @@ returns c base f =
       | then-loop-rule-test+else-count-le-WAITING_RECORDS w ↦ inl w.if-count-le-WAITING_RECORDS.false
       | else-loop-rule-test w ↦ inr w.loop-rule-test.false
     ])
-    c.count_records.ensures
+    _ _ c.count_records.ensures

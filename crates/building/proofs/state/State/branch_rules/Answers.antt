@@ -13,8 +13,8 @@ use Rattle.building.proofs.BranchTurn.{branch_onward, branch_ready, branch_room}
 use Rattle.building.proofs.ListedRules.{next_listed, notes_part, notes_room, rule_behind}
 use Rattle.building.proofs.OwnShelf.{Onward}
 use Rattle.building.proofs.RuleLoop.{Ran, ran_ends, ran_onward, ran_starts}
-use Rattle.building.proofs.node.branch_rules.Goals as goal
-use Rattle.building.proofs.node.branch_rules.Goals.{then-loop-rule-test+else-count-le-WAITING_RECORDS, else-loop-rule-test}
+use Rattle.building.proofs.state.State.branch_rules.Goals as goal
+use Rattle.building.proofs.state.State.branch_rules.Goals.{then-loop-rule-test+else-count-le-WAITING_RECORDS, else-loop-rule-test}
 
 onward : {input lists work batch work' batch' work'' batch'' : List ℕ} {t : State} {base : List Record} {count rule count'' next : ℕ} {here : Branch}
     → Filling input t work batch base → Ran input t work base count rule work' batch' → Listed input lists → rule < length input
@@ -38,7 +38,7 @@ pub branch_at-here-requires : goal.branch_at-here-requires
 branch_at-here-requires c =
     let l = c.loop-rule in
     let r = l.invariant c.requires.filling.0.0 c.requires.filling.0.1 in
-    branch_ready c.args.input.now (more c.args.t l.count l.rule) l.work _ r.standing c.loop-rule-test.true c.requires.rule_in_bounds.1 c.args.t refl
+    branch_ready c.args.input.now (more c.args.self.now l.count l.rule) l.work _ r.standing c.loop-rule-test.true c.requires.rule_in_bounds.1 c.args.self.now refl
     refl refl
 
 pub branch_rule-count-requires-clause-room : goal.branch_rule-count-requires-clause-room
@@ -46,7 +46,7 @@ branch_rule-count-requires-clause-room c =
     let l = c.loop-rule in
     let f = c.requires.filling.0.1 in
     let r = l.invariant c.requires.filling.0.0 f in (
-      branch_room c.args.input.now (more c.args.t l.count l.rule) l.work _ r.standing c.loop-rule-test.true c.requires.rule_in_bounds.1
+      branch_room c.args.input.now (more c.args.self.now l.count l.rule) l.work _ r.standing c.loop-rule-test.true c.requires.rule_in_bounds.1
           c.branch_at-here.ensures (omega arith) (omega (arith, f.few)),
       notes_part c.requires.filling.1 (ap (λ (b : Branch). b.size) c.branch_at-here.ensures ∙ ap (λ n. 2 ^ n) r.standing.constants.arity),
     )
@@ -55,7 +55,7 @@ pub overflow_sub-rule : goal.overflow_sub-rule
 overflow_sub-rule c =
     let l = c.loop-rule in
     let r = l.invariant c.requires.filling.0.0 c.requires.filling.0.1 in
-    rule_behind c.args.input.now (more c.args.t l.count l.rule) l.work _ r.standing c.loop-rule-test.true c.requires.filling.1
+    rule_behind c.args.input.now (more c.args.self.now l.count l.rule) l.work _ r.standing c.loop-rule-test.true c.requires.filling.1
 
 pub loop-rule-smaller : goal.loop-rule-smaller
 loop-rule-smaller c =
@@ -77,4 +77,4 @@ returns c base f =
       | then-loop-rule-test+else-count-le-WAITING_RECORDS w ↦ inl w.if-count-le-WAITING_RECORDS.false
       | else-loop-rule-test w ↦ inr w.loop-rule-test.false
     ])
-    c.count_records.ensures
+    _ _ c.count_records.ensures

@@ -1,43 +1,36 @@
--- `roots::unite_root` unites the slot of one more state, if that is accepting.
+-- `State::unite_root` unites the slot of one more state, if that is accepting.
 use Rattle.std.proofs.Common.{◌<◌, ℕ, List, ap, arith, not}
 use Rattle.building.specs.Bounds.{most_states}
 use Rattle.building.specs.Roots.{StandsListed}
 use Rattle.building.specs.Standing.{State}
 use Rattle.building.proofs.UnitedRoots.{RootReady, next_skipped, next_united, root_ready}
-use Rattle.building.proofs.roots.unite_root.Goals as goal
+use Rattle.building.proofs.state.State.unite_root.Goals as goal
 
 -- what is known from the start
-ready : (t : State) (lists work : List ℕ) (state : ℕ) (s : StandsListed t lists work) → state < t.states → RootReady s.0 t work state
+ready : (t : State) (lists work : List ℕ) (state : ℕ) (s : StandsListed t lists work) → state < t.shape.states → RootReady s.0 t work state
 ready t lists work state s h = root_ready s.0 t work s.1.0.0 s.1.0.1 state h
 
 -- the state is one of 16
-small : (t : State) (lists work : List ℕ) (state : ℕ) → StandsListed t lists work → state < t.states → state < most_states
+small : (t : State) (lists work : List ℕ) (state : ℕ) → StandsListed t lists work → state < t.shape.states → state < most_states
 small t lists work state s h = omega (arith, ready t lists work state s h)
 
 pub returns-then-not-accepts : goal.returns-then-not-accepts
 returns-then-not-accepts c =
     let a = c.args in
     let r = c.requires in
-    next_skipped a.t a.lists.now a.work.now a.state a.made r.count_le_count.0 r.count_le_count.1 r.count_le_count.2 a.batch.now
+    next_skipped a.self.now a.lists.now a.work.now a.state a.made r.count_le_count.0 r.count_le_count.1 r.count_le_count.2 a.batch.now
     (small _ _ _ _ r.stands_listed.0 r.state_lt_states.0) c.accepts.result c.accepts.ensures.0 (ap not c.if-not-accepts.true)
 
-pub flags-places-requires : goal.flags-places-requires
-flags-places-requires c = omega (arith, ready _ _ _ _ c.requires.stands_listed.0 c.requires.state_lt_states.0)
-
-pub shelf_at-requires-clause-arity_le_most_places : goal.shelf_at-requires-clause-arity_le_most_places
-shelf_at-requires-clause-arity_le_most_places c =
-    let r = ready _ _ _ _ c.requires.stands_listed.0 c.requires.state_lt_states.0 in (r.node.arity, r.node.states)
-
-pub shelf_at-requires-clause-frame_le_most_frames : goal.shelf_at-requires-clause-frame_le_most_frames
-shelf_at-requires-clause-frame_le_most_frames c =
+pub shelf_at-requires : goal.shelf_at-requires
+shelf_at-requires c =
     let r = ready _ _ _ _ c.requires.stands_listed.0 c.requires.state_lt_states.0 in (omega (arith, r), omega (arith, r))
 
 pub overflow_add-at : goal.overflow_add-at
 overflow_add-at c =
     omega (arith, (ready _ _ _ _ c.requires.stands_listed.0 c.requires.state_lt_states.0).slot c.shelf_at.ensures c.flags-places.ensures)
 
-pub overflow_cast-t : goal.overflow_cast-t
-overflow_cast-t c = omega (arith, ready _ _ _ _ c.requires.stands_listed.0 c.requires.state_lt_states.0)
+pub overflow_cast-self : goal.overflow_cast-self
+overflow_cast-self c = omega (arith, ready _ _ _ _ c.requires.stands_listed.0 c.requires.state_lt_states.0)
 
 pub offset_bounds-work-at : goal.offset_bounds-work-at
 offset_bounds-work-at c =
@@ -59,6 +52,6 @@ pub returns : goal.returns
 returns c =
     let a = c.args in
     let r = c.requires in
-    next_united a.t a.lists.now a.work.now a.state a.made r.count_le_count.0 r.count_le_count.1 r.count_le_count.2 a.batch.now
+    next_united a.self.now a.lists.now a.work.now a.state a.made r.count_le_count.0 r.count_le_count.1 r.count_le_count.2 a.batch.now
     (small _ _ _ _ r.stands_listed.0 r.state_lt_states.0) c.accepts.result c.accepts.ensures.0 (ap not c.if-not-accepts.false) r.state_lt_states.0
     c.shelf_at.ensures c.flags-places.ensures c.union.ensures
