@@ -1,13 +1,18 @@
 // The lent table of records: the two functions that write it, what the second calls, and the set that a number is.
 // Those two hold a slice of structs; whatever can be done on plain numbers is done by the others.
+// What becomes of sets where they are put together has a file of its own.
 #![tactic(auto)]
 
 ghost use Rattle.std.specs.Prelude.{◌≡◌, ◌+◌, ◌*◌, ◌<◌, length, replicate};
 ghost use Rattle.paper.specs.Records.{blank_entry};
 ghost use Rattle.table.specs.Batch.{record_numbers, record_at, fits, stored};
-ghost use Rattle.table.specs.Sets.{set_in};
+ghost use Rattle.table.specs.Sets.{set_in, set_number};
 
 use paper::{Record, Set};
+
+mod made;
+
+pub use made::{Made, product, single, union};
 
 // A record in a batch is so many numbers, in the order of its fields: kind, node, left, right, flag.
 pub const RECORD_NUMBERS: usize = 5;
@@ -73,5 +78,16 @@ pub fn set_of(number: u16) -> Set
         EMPTY => Set::Empty,
         UNIT => Set::Unit,
         _ => Set::Record(number - FIRST_RECORD as u16),
+    }
+}
+
+// And back: the number that a set is.
+pub fn number_of(set: Set) -> u64
+    ensures { result ≡ set_number set }
+{
+    match set {
+        Set::Empty => EMPTY,
+        Set::Unit => UNIT,
+        Set::Record(i) => FIRST_RECORD + u64::from(i),
     }
 }
