@@ -1,17 +1,17 @@
 // Text in a buffer of fixed size: a byte, a number, a line of a word and a number, the line of a refusal, each put behind what stands
 // there. Both programs write with these. A word, a number or a byte that has no room is left out whole, so none asks for anything; who
-// has the room knows that all stands there (proofs/Putting.antt). Last, how both programs read.
+// has the room knows that all stands there (proofs/Putting.antt). Last, how both programs read and write.
 #![tactic(auto)]
 
-ghost use Rattle.std.specs.Prelude.{[], ◌∷◌, ◌≡◌, ◌+◌, ◌≤◌, length, take};
-ghost use Rattle.std.specs.Io.KnownBytes.{Consumes};
+ghost use Rattle.std.specs.Prelude.{[], ◌∷◌, ◌≡◌, ◌+◌, ◌≤◌, length, take, OnOk};
+ghost use Rattle.std.specs.Io.KnownBytes.{Appends, Consumes};
 ghost use Rattle.io.specs.Counts.{IsPrefixLen};
 ghost use Rattle.paper.specs.Answers.{no_of_stream};
 ghost use Rattle.lines.specs.Put.{put, put_fact, put_refusal};
 ghost use Rattle.lines.specs.Text.{number_text};
 
 use paper::StreamRefusal;
-use std::io::Read;
+use std::io::{ErrorKind, Read, Write};
 use std::marker::Model;
 
 // The digits of a number below 2 to the power of 64, at most.
@@ -133,4 +133,22 @@ pub fn read_full<R: Read>(from: &mut R, buffer: &mut [u8]) -> usize
         }
     }
     done
+}
+
+// Writes all of the bytes. That it failed is told in a line of its own, unless the reader went away.
+pub fn write_or_tell<W: Write, E: Write>(
+    out: &mut W,
+    bytes: &[u8],
+    errors: &mut E,
+    failure: &[u8],
+) -> std::io::Result<()>
+    ensures { OnOk result (Appends (W.contents out.old) (W.contents out.new) bytes.now) }
+{
+    let written = out.write_all(bytes);
+    if let Err(why) = &written
+        && why.kind() != ErrorKind::BrokenPipe
+    {
+        let _ = errors.write_all(failure);
+    }
+    written
 }
