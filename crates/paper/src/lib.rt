@@ -102,8 +102,8 @@ impl From<Refusal> for StreamRefusal {
 
     ghost from_gives = { λ why stream. stream ≡ Other why };
 
-    fn from(why: Refusal) -> StreamRefusal {
-        StreamRefusal::Other(why)
+    fn from(refusal: Refusal) -> StreamRefusal {
+        StreamRefusal::Other(refusal)
     }
 }
 

@@ -10,10 +10,12 @@ use native.Mathlib.Omega.{arith}
 use borrow.Author.Tests.{le-leb, leb-false, leb-true, lt-leb}
 use lib.Dec.{leb}
 use lib.ListN.{get_or, length, replicate}
+use Rattle.std.specs.Prelude.{Result}
 use Rattle.paper.specs.declared.Head.{Head}
 use Rattle.paper.specs.declared.Record.{Record}
 use Rattle.paper.specs.declared.Set.{Set}
 use Rattle.paper.specs.declared.Set.TheVariants.{Empty as empty, Unit as unit, Record as at}
+use Rattle.paper.specs.declared.Refusal.{Refusal}
 use Rattle.paper.specs.Records.{used_of}
 use Rattle.paper.specs.Refusals.{Reply, answer, over, refused, no}
 use Rattle.paper.specs.Sound.{entry, sound}
@@ -24,7 +26,7 @@ use Rattle.laws.proofs.Tests.{Says, says_and, says_at_most, says_below, says_equ
 use Rattle.sound.specs.Face.{Weighs}
 use Rattle.sound.specs.Passing.{Passed, Ready, Weighing}
 use Rattle.sound.specs.OneRecord.{State}
-use Rattle.sound.specs.Weights.{Weighed, flag_in, says_weighed, weighed_work, weighing, weights}
+use Rattle.sound.specs.Weights.{flag_in, says_weighed, weighed_work, weighing, weights}
 use Rattle.sound.specs.Head.{Judges, begun, head_fits, set_fits}
 use Rattle.sound.proofs.Cells.{weights_at, weights_length}
 use Rattle.sound.proofs.Overwriting.{over_is, zeros_agree}
@@ -167,7 +169,7 @@ module _ (h : Head) (table : List Record) (work : List ℕ) where
       cleared_work = zeros_agree work h.used weighed room long P.kept
 
     -- ---- the answer
-    module _ (r : Weighed) (work' : List ℕ) (J : Judges e h weighed r work') where
+    module _ (r : Result (Unit {0}) Refusal) (work' : List ℕ) (J : Judges e h weighed r work') where
       -- both fields, by the reply
       replies : (reply : Reply (Unit {0})) → weighing h table (length work) ≡ reply → says_weighed r ≡ reply → work' ≡ weighed_work reply h table work
           → Weighs h table work r work'

@@ -1,10 +1,8 @@
 -- The verdict of a question, once its set has been weighed: its own tests, each with its refusal, what they come to, and what is to be cleared.
-use Rattle.std.specs.Prelude.{Bool, cond, List, [], ◌∷◌, ℕ, min, length, replicate}
+use Rattle.std.specs.Prelude.{Bool, cond, List, [], ◌∷◌, ℕ, Result, Ok, Err, min, length, replicate}
 use Rattle.paper.specs.declared.Refusal.{Refusal}
 use Rattle.paper.specs.Answers.{no_of}
 use Rattle.paper.specs.Refusals.{Reply, Test, answer, over, refused}
-use Rattle.sound.specs.Weights.{Weighed}
-use Rattle.sound.specs.declared.Weighed.TheVariants as WeighedIs
 pub use Rattle.sound.specs.declared.verdict.Ruling.{Ruling}
 use Rattle.sound.specs.declared.verdict.Ruling.TheVariants as RulingIs
 pub use Rattle.sound.specs.declared.verdict.Verdict.{Verdict}
@@ -23,9 +21,9 @@ abbrev pub ruling_of : List OwnTest → Ruling
 ruling_of [] = RulingIs.Answer
 ruling_of (t ∷ ts) = cond t.1 (ruling_of ts) (RulingIs.Refused t.0)
 
-abbrev pub verdict_of : Weighed → Ruling → ℕ → Verdict
-verdict_of WeighedIs.Sound own used = record { ruling = own; clear = used }
-verdict_of (WeighedIs.Refused why) own used = record { ruling = RulingIs.Refused why; clear = 0 }
+abbrev pub verdict_of : Result (Unit {0}) Refusal → Ruling → ℕ → Verdict
+verdict_of (Ok _) own used = record { ruling = own; clear = used }
+verdict_of (Err why) own used = record { ruling = RulingIs.Refused why; clear = 0 }
 
 -- a test more, which counts where those before it hold
 abbrev pub ruling_after : Ruling → Ruling → Ruling

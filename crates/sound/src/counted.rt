@@ -2,12 +2,12 @@
 // cleared work.
 ghost use Rattle.sound.specs.Counting.{Finishes};
 
-use crate::{Ruling, Weighed, clear, set_rows, verdict_of};
-use paper::{Counted, Head};
+use crate::{Ruling, clear, set_rows, verdict_of};
+use paper::{Head, Refusal};
 
 // The answer, or the refusal, and the work cleared. `count` has no tests of its own. The rows stand in
 // the work, so they are read before it is cleared; of a set that is not sound they are never told.
-pub(crate) fn finish(w: Weighed, head: Head, work: &mut [u64]) -> Counted
+pub(crate) fn finish(w: Result<(), Refusal>, head: Head, work: &mut [u64]) -> Result<u64, Refusal>
     ensures { Finishes w head work.old result work.new }
 {
     let v = verdict_of(w, Ruling::Answer, head.used);
@@ -16,7 +16,7 @@ pub(crate) fn finish(w: Weighed, head: Head, work: &mut [u64]) -> Counted
     clear(&mut *work, v.clear);
     let ruling = v.ruling;
     match ruling {
-        Ruling::Refused(why) => Counted::Refused(why),
-        Ruling::Answer => Counted::Rows(rows),
+        Ruling::Refused(why) => Err(why),
+        Ruling::Answer => Ok(rows),
     }
 }

@@ -3,9 +3,9 @@
 ghost use Rattle.std.specs.Prelude.{◌≡◌, ◌≤◌, length};
 ghost use Rattle.sound.specs.Head.{head_fits, begun, set_fits, Judges};
 
+use crate::clear;
 use crate::state::State;
 use crate::weight::flag_in;
-use crate::{Weighed, clear};
 use paper::limits::{MOST_NODES, MOST_PLACES, MOST_RECORDS};
 use paper::{Flag, Head, Refusal, Set};
 
@@ -72,20 +72,20 @@ fn set_fits(head: Head, work: &[u64]) -> bool
 }
 
 // The answer, after the pass: refusal 5 before 11, as the paper orders them.
-pub(crate) fn judge(t: State, head: Head, work: &mut [u64]) -> Weighed
+pub(crate) fn judge(t: State, head: Head, work: &mut [u64]) -> Result<(), Refusal>
     ensures { Judges t head work.old result work.new }
 {
     let used = head.used as usize;
     // 5 leaves the work as it is; no weight has been written then.
     if work.len() < used {
-        return Weighed::Refused(Refusal::ShortWork);
+        return Err(Refusal::ShortWork);
     }
     if t.sound {
         if set_fits(head, &*work) {
-            return Weighed::Sound;
+            return Ok(());
         }
     }
     // 11 leaves the stated part zero, whatever stands there: weights, or what the caller lent.
     clear(&mut *work, used);
-    Weighed::Refused(Refusal::NotSound)
+    Err(Refusal::NotSound)
 }

@@ -14,7 +14,7 @@ use crate::counted::finish;
 use crate::head::{begin, judge};
 use crate::record::next;
 use crate::state::State;
-use paper::{Counted, Head, Record, Refusal, Set};
+use paper::{Head, Record, Refusal, Set};
 
 mod counted;
 mod head;
@@ -29,16 +29,9 @@ pub use weight::{flag_in, rows_in};
 // So is the verdict.
 pub use verdict::{Ruling, Verdict, verdict_after, verdict_of};
 
-// What `weigh` found. Where the set is sound, the work has the weights of its used records.
-#[derive(Clone, Copy)]
-pub enum Weighed {
-    Sound,
-    Refused(Refusal),
-}
-
-// Refusals 5 and 11, or the weights of the used records in the work. A caller that is told `Sound`
-// has to clear the work; after a refusal it is as the paper wants it.
-pub fn weigh(head: Head, table: &[Record], work: &mut [u64]) -> Weighed
+// Refusals 5 and 11, or the weights of the used records in the work. A caller that is told `Ok` has to
+// clear the work; after a refusal it is as the paper wants it.
+pub fn weigh(head: Head, table: &[Record], work: &mut [u64]) -> Result<(), Refusal>
     ensures { Weighs head table.now work.old result work.new }
 {
     let entries = table.len();
@@ -49,7 +42,7 @@ pub fn weigh(head: Head, table: &[Record], work: &mut [u64]) -> Weighed
 }
 
 // How many rows are listed.
-pub fn count(head: Head, table: &[Record], work: &mut [u64]) -> Counted
+pub fn count(head: Head, table: &[Record], work: &mut [u64]) -> Result<u64, Refusal>
     ensures { Counts head table.now work.old result work.new }
 {
     let w = weigh(head, table, &mut *work);

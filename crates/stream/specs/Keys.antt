@@ -1,12 +1,12 @@
 -- What the records behind the head say once, as a table of bits. First a key for each accepting state and for each kind and left side of a
 -- rule, with the query's own arity and states as radices, then the bits, then what the reading of the records keeps up.
-use Rattle.std.specs.Prelude.{Bool, ◌||◌, cond, true, List, ◌∷◌, map, ◌≡◌, ℕ, ◌+◌, ◌*◌, ◌/◌, ◌%◌, ◌^◌, ◌≤◌, eqb, get_or, length}
+use Rattle.std.specs.Prelude.{Bool, Err, Ok, Result, ◌||◌, cond, true, List, ◌∷◌, map, ◌≡◌, ℕ, ◌+◌, ◌*◌, ◌/◌, ◌%◌, ◌^◌, ◌≤◌, eqb, get_or, length}
 use Rattle.paper.specs.Lists.{◌∈◌, has}
+use Rattle.paper.specs.declared.StreamRefusal.{StreamRefusal}
 use Rattle.paper.specs.Stream.{StreamRecord}
-use Rattle.stream.specs.OneRecord.{AtLaterRecord, HeadInRange, QueryState, QueryStep, fits}
+use Rattle.stream.specs.OneRecord.{AtLaterRecord, HeadInRange, QueryState, fits}
 use Rattle.stream.specs.Positions.{after, record_at, records_between}
 use Rattle.stream.specs.Reading.{QueryFacts}
-use Rattle.stream.specs.declared.query.QueryStep.TheVariants as QueryStepIs
 
 -- ---- how large it gets
 -- bits of a word
@@ -88,9 +88,9 @@ pub record AtFittingRecord (input : List ℕ) (f : QueryFacts) (s : QueryState) 
   pub table : TableOf f (records_between input f.rules s.at) said
 
 -- where the reading goes on, the table has the keys of the records up to there
-abbrev pub TableAfter : List ℕ → QueryFacts → QueryStep → List ℕ → Type 0
-TableAfter input f (QueryStepIs.Next s) said = TableOf f (records_between input f.rules s.at) said
-TableAfter input f (QueryStepIs.Refused why) said = Unit {0}
+abbrev pub TableAfter : List ℕ → QueryFacts → Result QueryState StreamRefusal → List ℕ → Type 0
+TableAfter input f (Ok s) said = TableOf f (records_between input f.rules s.at) said
+TableAfter input f (Err why) said = Unit {0}
 
 -- a whole record stands at the position, behind a head whose numbers are in range
 pub record WholeAt (input : List ℕ) (f : QueryFacts) (at : ℕ) : Type 0 where

@@ -1,18 +1,15 @@
 -- One record of the tree, or of the query, after those before it: the state that a loop carries, and what one step answers.
-use Rattle.std.specs.Prelude.{Bool, true, ◌&&◌, List, [], ◌∷◌, ◌≡◌, ℕ, ◌≤◌, ◌<◌, leb, ltb, length, get_or, drop}
+use Rattle.std.specs.Prelude.{Bool, Result, true, ◌&&◌, List, [], ◌∷◌, ◌≡◌, ℕ, ◌≤◌, ◌<◌, leb, ltb, length, get_or, drop}
 use Rattle.paper.specs.Stream.{StreamRecord, whole, records_of, is_tree_kind}
 use Rattle.paper.specs.Tree.{unjoined, most_unjoined}
 use Rattle.paper.specs.Query.{Query, rules_of, accepting_of}
-use Rattle.paper.specs.Refusals.{Reply, refused, answer, unless, tests_at, at_each, tree_tests, head_tests, later_tests, in_range}
-use Rattle.paper.specs.Answers.{no_of_stream}
+use Rattle.paper.specs.Refusals.{Reply, unless, tests_at, at_each, tree_tests, head_tests, later_tests, in_range}
+use Rattle.paper.specs.declared.StreamRefusal.{StreamRefusal}
+use Rattle.paper.specs.Answers.{no_of_stream, says}
 use Rattle.stream.specs.Positions.{record_at, after, records_between, WholeBetween}
 use Rattle.stream.specs.Reading.{QueryFacts, query_facts}
 pub use Rattle.stream.specs.declared.tree.TreeState.{TreeState}
-pub use Rattle.stream.specs.declared.tree.TreeStep.{TreeStep}
-use Rattle.stream.specs.declared.tree.TreeStep.TheVariants as TreeStepIs
 pub use Rattle.stream.specs.declared.query.QueryState.{QueryState}
-pub use Rattle.stream.specs.declared.query.QueryStep.{QueryStep}
-use Rattle.stream.specs.declared.query.QueryStep.TheVariants as QueryStepIs
 
 -- ---- the tree
 -- a tree record stands at the position
@@ -32,9 +29,8 @@ tree_up_to input to = record {
 abbrev pub tree_step : List ℕ → ℕ → Reply TreeState
 tree_step input at = unless (tests_at at (tree_tests (records_between input 0 at) (record_at input at))) (tree_up_to input (after input at))
 
-abbrev pub says_tree_step : TreeStep → Reply TreeState
-says_tree_step (TreeStepIs.Next s) = answer s
-says_tree_step (TreeStepIs.Refused r) = refused (no_of_stream r)
+abbrev pub says_tree_step : Result TreeState StreamRefusal → Reply TreeState
+says_tree_step = says no_of_stream
 
 -- whole records up to a tree record, and the state that they make
 pub record AtTreeRecord (input : List ℕ) (s : TreeState) : Type 0 where
@@ -91,9 +87,8 @@ abbrev pub query_step : List ℕ → QueryFacts → ℕ → Reply QueryState
 query_step input f at =
     unless (tests_at at (later_tests (query_with f (records_between input f.rules at)) (record_at input at))) (query_up_to input f (after input at))
 
-abbrev pub says_query_step : QueryStep → Reply QueryState
-says_query_step (QueryStepIs.Next s) = answer s
-says_query_step (QueryStepIs.Refused r) = refused (no_of_stream r)
+abbrev pub says_query_step : Result QueryState StreamRefusal → Reply QueryState
+says_query_step = says no_of_stream
 
 -- all of them, behind a head with these facts
 abbrev pub later_reply : List ℕ → QueryFacts → Reply QueryFacts

@@ -10,17 +10,11 @@ use paper::kinds::QUERY_HEAD;
 use paper::limits::{MOST_PLACES, MOST_STATES};
 
 // The query's arity and states, and where the records behind its head begin.
-#[derive(Clone, Copy)]
+#[derive(Clone, Copy, Debug, PartialEq, Eq)]
 pub struct QueryFacts {
     pub arity: usize,
     pub states: usize,
     pub rules: usize,
-}
-
-#[derive(Clone, Copy)]
-pub enum QueryRead {
-    Query(QueryFacts),
-    Refused(StreamRefusal),
 }
 
 fn within(x: usize, least: usize, most: usize) -> bool
@@ -31,32 +25,32 @@ fn within(x: usize, least: usize, most: usize) -> bool
 
 // Every fault of a head is refused 3, so the order of the tests is free but for this: a byte is
 // read behind the test that it is there.
-pub(crate) fn query_head(input: &[u8], at: usize) -> QueryRead
+pub(crate) fn query_head(input: &[u8], at: usize) -> Result<QueryFacts, StreamRefusal>
     ensures { says_query result ≡ head_reply input.now at }
 {
     // A tree with no query.
     if input.len() <= at {
-        return QueryRead::Refused(StreamRefusal::Query(at));
+        return Err(StreamRefusal::Query(at));
     }
     if input[at] != QUERY_HEAD {
-        return QueryRead::Refused(StreamRefusal::Query(at));
+        return Err(StreamRefusal::Query(at));
     }
     // Cut. Behind this test both numbers can be read.
     let next = at + 1 + body_length(QUERY_HEAD);
     if input.len() < next {
-        return QueryRead::Refused(StreamRefusal::Query(at));
+        return Err(StreamRefusal::Query(at));
     }
     let arity = input[at + 1] as usize;
     let states = input[at + 2] as usize;
     if !within(arity, 1, MOST_PLACES) {
-        return QueryRead::Refused(StreamRefusal::Query(at));
+        return Err(StreamRefusal::Query(at));
     }
     if !within(states, 1, MOST_STATES) {
-        return QueryRead::Refused(StreamRefusal::Query(at));
+        return Err(StreamRefusal::Query(at));
     }
-    QueryRead::Query(QueryFacts {
-        arity: arity,
-        states: states,
+    Ok(QueryFacts {
+        arity,
+        states,
         rules: next,
     })
 }

@@ -14,8 +14,8 @@ mod record; // a byte of the input, also behind its end
 mod tree; // the tree
 
 // Callers name these by the crate alone: in which file one stands is not their matter.
-pub use head::{QueryFacts, QueryRead};
+pub use head::QueryFacts;
 pub use lengths::body_length;
 pub use lists::{LIST_NUMBERS, accepts, first_rule, list_rules, rule_after};
 pub use query::read_query;
-pub use tree::{TreeFacts, TreeRead, read_tree};
+pub use tree::{TreeFacts, read_tree};

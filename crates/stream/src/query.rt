@@ -9,7 +9,7 @@ ghost use Rattle.stream.specs.Positions.{records_between};
 ghost use Rattle.stream.specs.Reading.{says_query, query_reply};
 
 use crate::fits::record_fits;
-use crate::head::{QueryFacts, QueryRead, query_head};
+use crate::head::{QueryFacts, query_head};
 use crate::keys::{WORD_BITS, number_of_keys, rule_key, say, state_key};
 use crate::lengths::body_length;
 use paper::StreamRefusal;
@@ -24,36 +24,40 @@ struct QueryState {
     rules: usize,
 }
 
-#[derive(Clone, Copy)]
-enum QueryStep {
-    Next(QueryState),
-    Refused(StreamRefusal),
-}
-
 // A rule that fits: one too many is refused 3, one whose kind and left side an earlier one has is
 // refused 4.
-fn rule_record(input: &[u8], facts: QueryFacts, state: QueryState, said: &mut [u64]) -> QueryStep
+fn rule_record(
+    input: &[u8],
+    facts: QueryFacts,
+    state: QueryState,
+    said: &mut [u64],
+) -> Result<QueryState, StreamRefusal>
     requires at_fitting_record { AtFittingRecord input.now facts state said.old }
     requires at_value { is_rule_kind (get_or input.now state.at 0) ≡ true }
     ensures result_value { says_query_step result ≡ query_step input.now facts state.at }
     ensures table_after { TableAfter input.now facts result said.new }
 {
     if MOST_RULES <= state.rules {
-        return QueryStep::Refused(StreamRefusal::Query(state.at));
+        return Err(StreamRefusal::Query(state.at));
     }
     let at = state.at;
     let key = rule_key(input, facts, at);
     if say(&mut *said, key) {
-        return QueryStep::Refused(StreamRefusal::Twice(at));
+        return Err(StreamRefusal::Twice(at));
     }
-    QueryStep::Next(QueryState {
+    Ok(QueryState {
         at: at + 1 + body_length(input[at]),
         rules: state.rules + 1,
     })
 }
 
 // An accepting state that fits: one that is accepted already is refused 4.
-fn state_record(input: &[u8], facts: QueryFacts, state: QueryState, said: &mut [u64]) -> QueryStep
+fn state_record(
+    input: &[u8],
+    facts: QueryFacts,
+    state: QueryState,
+    said: &mut [u64],
+) -> Result<QueryState, StreamRefusal>
     requires at_fitting_record { AtFittingRecord input.now facts state said.old }
     requires at_value { get_or input.now state.at 0 ≡ 19 }
     ensures result_value { says_query_step result ≡ query_step input.now facts state.at }
@@ -62,9 +66,9 @@ fn state_record(input: &[u8], facts: QueryFacts, state: QueryState, said: &mut [
     let at = state.at;
     let key = state_key(input, facts, at);
     if say(&mut *said, key) {
-        return QueryStep::Refused(StreamRefusal::Twice(state.at));
+        return Err(StreamRefusal::Twice(state.at));
     }
-    QueryStep::Next(QueryState {
+    Ok(QueryState {
         at: at + 1 + body_length(ACCEPTING_STATE),
         rules: state.rules,
     })
@@ -72,7 +76,12 @@ fn state_record(input: &[u8], facts: QueryFacts, state: QueryState, said: &mut [
 
 // One more record behind the head. 3 before 4: whether it fits is asked before what the earlier
 // ones say.
-fn query_record(input: &[u8], facts: QueryFacts, state: QueryState, said: &mut [u64]) -> QueryStep
+fn query_record(
+    input: &[u8],
+    facts: QueryFacts,
+    state: QueryState,
+    said: &mut [u64],
+) -> Result<QueryState, StreamRefusal>
     requires at_later_record { AtLaterRecord input.now facts state }
     requires table_of { TableOf facts (records_between input.now facts.rules state.at) said.old }
     ensures result_value { says_query_step result ≡ query_step input.now facts state.at }
@@ -80,7 +89,7 @@ fn query_record(input: &[u8], facts: QueryFacts, state: QueryState, said: &mut [
 {
     let at = state.at;
     if !record_fits(input, facts, at) {
-        return QueryStep::Refused(StreamRefusal::Query(at));
+        return Err(StreamRefusal::Query(at));
     }
     // What fits and is no accepting state is a rule of either kind.
     if input[at] == ACCEPTING_STATE {
@@ -91,7 +100,7 @@ fn query_record(input: &[u8], facts: QueryFacts, state: QueryState, said: &mut [
 
 // All records behind the head, with a table that has no key yet. There may be none: a query with no
 // rule, or with no accepting state, gives the empty set.
-fn each_record(input: &[u8], facts: QueryFacts, said: &mut [u64]) -> QueryRead
+fn each_record(input: &[u8], facts: QueryFacts, said: &mut [u64]) -> Result<QueryFacts, StreamRefusal>
     requires behind_head { BehindHead input.now facts }
     requires table_of { TableOf facts [] said.old }
     ensures { says_query result ≡ later_reply input.now facts }
@@ -103,16 +112,9 @@ fn each_record(input: &[u8], facts: QueryFacts, said: &mut [u64]) -> QueryRead
     // Ends with the input, or by the first record at fault. A turn steps over one record that is
     // whole, so never behind the end.
     while state.at < input.len() {
-        match query_record(input, facts, state, &mut *said) {
-            QueryStep::Next(next) => {
-                state = next;
-            }
-            QueryStep::Refused(why) => {
-                return QueryRead::Refused(why);
-            }
-        }
+        state = query_record(input, facts, state, &mut *said)?;
     }
-    QueryRead::Query(facts)
+    Ok(facts)
 }
 
 // The words of three tables. A table is cleared whole where it is made, and that is not to be felt by
@@ -124,7 +126,7 @@ const MIDDLE_TABLE: usize = 1041;
 // For arity 4 with 16 states, the most: 263,184 keys.
 const LARGE_TABLE: usize = 4113;
 
-fn with_small_table(input: &[u8], facts: QueryFacts) -> QueryRead
+fn with_small_table(input: &[u8], facts: QueryFacts) -> Result<QueryFacts, StreamRefusal>
     requires behind_head { BehindHead input.now facts }
     requires facts_bound { keys_of facts ≤ word_bits * small_table }
     ensures { says_query result ≡ later_reply input.now facts }
@@ -133,7 +135,7 @@ fn with_small_table(input: &[u8], facts: QueryFacts) -> QueryRead
     each_record(input, facts, &mut said)
 }
 
-fn with_middle_table(input: &[u8], facts: QueryFacts) -> QueryRead
+fn with_middle_table(input: &[u8], facts: QueryFacts) -> Result<QueryFacts, StreamRefusal>
     requires behind_head { BehindHead input.now facts }
     requires facts_bound { keys_of facts ≤ word_bits * middle_table }
     ensures { says_query result ≡ later_reply input.now facts }
@@ -142,7 +144,7 @@ fn with_middle_table(input: &[u8], facts: QueryFacts) -> QueryRead
     each_record(input, facts, &mut said)
 }
 
-fn with_large_table(input: &[u8], facts: QueryFacts) -> QueryRead
+fn with_large_table(input: &[u8], facts: QueryFacts) -> Result<QueryFacts, StreamRefusal>
     requires behind_head { BehindHead input.now facts }
     requires facts_bound { keys_of facts ≤ word_bits * large_table }
     ensures { says_query result ≡ later_reply input.now facts }
@@ -152,7 +154,7 @@ fn with_large_table(input: &[u8], facts: QueryFacts) -> QueryRead
 }
 
 // All records behind the head, with the least table that does.
-fn later_records(input: &[u8], facts: QueryFacts) -> QueryRead
+fn later_records(input: &[u8], facts: QueryFacts) -> Result<QueryFacts, StreamRefusal>
     requires { BehindHead input.now facts }
     ensures { says_query result ≡ later_reply input.now facts }
 {
@@ -167,11 +169,9 @@ fn later_records(input: &[u8], facts: QueryFacts) -> QueryRead
 }
 
 // All of the query whose head stands at a position: refusals 3 and 4.
-pub fn read_query(input: &[u8], at: usize) -> QueryRead
+pub fn read_query(input: &[u8], at: usize) -> Result<QueryFacts, StreamRefusal>
     ensures { says_query result ≡ query_reply input.now at }
 {
-    match query_head(input, at) {
-        QueryRead::Query(facts) => later_records(input, facts),
-        QueryRead::Refused(why) => QueryRead::Refused(why),
-    }
+    let facts = query_head(input, at)?;
+    later_records(input, facts)
 }

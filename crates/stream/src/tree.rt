@@ -11,17 +11,11 @@ use paper::limits::{HIGHEST_LABEL, MOST_NODES};
 
 // Where the tree ends, how many nodes it has, and the most subtrees ever unjoined, by which the
 // work of a build is measured.
-#[derive(Clone, Copy)]
+#[derive(Clone, Copy, Debug, PartialEq, Eq)]
 pub struct TreeFacts {
     pub end: usize,
     pub nodes: usize,
     pub most: usize,
-}
-
-#[derive(Clone, Copy)]
-pub enum TreeRead {
-    Tree(TreeFacts),
-    Refused(StreamRefusal),
 }
 
 // What the tree records up to a position make: nodes, subtrees unjoined, and the most of these so
@@ -32,12 +26,6 @@ struct TreeState {
     nodes: usize,
     unjoined: usize,
     most: usize,
-}
-
-#[derive(Clone, Copy)]
-enum TreeStep {
-    Next(TreeState),
-    Refused(StreamRefusal),
 }
 
 fn is_tree_record(input: &[u8], at: usize) -> bool
@@ -58,7 +46,7 @@ fn larger(a: usize, b: usize) -> usize
 }
 
 // One more tree record. 2 before 1: the 4,096th tree kind is seen before its body.
-fn tree_record(input: &[u8], state: TreeState) -> TreeStep
+fn tree_record(input: &[u8], state: TreeState) -> Result<TreeState, StreamRefusal>
     requires { AtTreeRecord input.now state }
     ensures { says_tree_step result ≡ tree_step input.now state.at }
 {
@@ -66,19 +54,19 @@ fn tree_record(input: &[u8], state: TreeState) -> TreeStep
     let kind = input[at];
     let next = at + 1 + body_length(kind);
     if MOST_NODES <= state.nodes {
-        return TreeStep::Refused(StreamRefusal::ManyNodes(at));
+        return Err(StreamRefusal::ManyNodes(at));
     }
     // Cut. Behind this test the label can be read.
     if input.len() < next {
-        return TreeStep::Refused(StreamRefusal::Tree(at));
+        return Err(StreamRefusal::Tree(at));
     }
     if HIGHEST_LABEL < input[at + 1] {
-        return TreeStep::Refused(StreamRefusal::Tree(at));
+        return Err(StreamRefusal::Tree(at));
     }
     // A leaf joins nothing, so no more is asked of it; and only with a leaf can the most grow.
     if kind == LEAF {
         let unjoined = state.unjoined + 1;
-        return TreeStep::Next(TreeState {
+        return Ok(TreeState {
             at: next,
             nodes: state.nodes + 1,
             unjoined: unjoined,
@@ -87,9 +75,9 @@ fn tree_record(input: &[u8], state: TreeState) -> TreeStep
     }
     // A branch makes one subtree of the last two.
     if state.unjoined < 2 {
-        return TreeStep::Refused(StreamRefusal::Tree(at));
+        return Err(StreamRefusal::Tree(at));
     }
-    TreeStep::Next(TreeState {
+    Ok(TreeState {
         at: next,
         nodes: state.nodes + 1,
         unjoined: state.unjoined - 1,
@@ -98,7 +86,7 @@ fn tree_record(input: &[u8], state: TreeState) -> TreeStep
 }
 
 // All of the tree: refusals 1 and 2.
-pub fn read_tree(input: &[u8]) -> TreeRead
+pub fn read_tree(input: &[u8]) -> Result<TreeFacts, StreamRefusal>
     ensures { says_tree result ≡ tree_reply input.now }
 {
     let mut state = TreeState {
@@ -110,20 +98,13 @@ pub fn read_tree(input: &[u8]) -> TreeRead
     // Ends by the first kind that is not the tree's, with the input, or by the first record at
     // fault: what comes later cannot change the refusal. A turn steps over one whole record.
     while is_tree_record(input, state.at) {
-        match tree_record(input, state) {
-            TreeStep::Next(next) => {
-                state = next;
-            }
-            TreeStep::Refused(why) => {
-                return TreeRead::Refused(why);
-            }
-        }
+        state = tree_record(input, state)?;
     }
     // With no node there is no subtree, so one subtree at the end is all that is asked here.
     if state.unjoined != 1 {
-        return TreeRead::Refused(StreamRefusal::Tree(state.at));
+        return Err(StreamRefusal::Tree(state.at));
     }
-    TreeRead::Tree(TreeFacts {
+    Ok(TreeFacts {
         end: state.at,
         nodes: state.nodes,
         most: state.most,

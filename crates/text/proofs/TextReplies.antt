@@ -6,7 +6,7 @@ use Prim.Native.Nat.{◌-◌, ◌<◌, ◌≤◌, ℕ}
 use native.Mathlib.Omega.{arith}
 use lib.ListN.{drop, length, length-drop, take}
 use lib.Seq.{take_all}
-use Rattle.paper.specs.declared.Converted.TheVariants as ConvertedIs
+use Rattle.std.specs.Prelude.{Err, Ok}
 use Rattle.paper.specs.declared.Refusal.TheVariants as RefusalIs
 use Rattle.paper.specs.CanonicalText.{text_of}
 use Rattle.paper.specs.Conversions.{Images, no_room, of_none, the_result}
@@ -26,7 +26,7 @@ images_accepted bytes w I =
     ∙ (image_accepted (image_bytes w) w (image_read w I.allowed)).0
 
 pub image_refused : (bytes out : List ℕ) → accepts_image (image_judged nothing_read bytes) ≡ false
-    → MakesText bytes out (ConvertedIs.Refused RefusalIs.Text) out
+    → MakesText bytes out (Err RefusalIs.Text) out
 image_refused bytes out e = record {
   reply = refused (no 15);
   right = of_none (λ w I. false≢true (sym e ∙ images_accepted bytes w I));
@@ -38,7 +38,7 @@ module _ (bytes : List ℕ) (start : ℕ) (text : List ℕ) (W : WritesText byte
   text_length : length (text_of W.tree) ≡ 8188 - start
   text_length = ap length (sym W.stands) ∙ length-drop start text ∙ ap (λ n. n - start) W.long
 
-  pub short_refused : length out < 8188 - start → MakesText bytes out (ConvertedIs.Refused RefusalIs.ShortOutput) out
+  pub short_refused : length out < 8188 - start → MakesText bytes out (Err RefusalIs.ShortOutput) out
   short_refused short = record {
     reply = refused (no 10);
     right = no_room W.images (omega (arith, text_length));
@@ -47,7 +47,7 @@ module _ (bytes : List ℕ) (start : ℕ) (text : List ℕ) (W : WritesText byte
   }
 
   pub text_told : 8188 - start ≤ length out → (out' : List ℕ) → out' ≡ over (take (8188 - start) (drop start text)) out
-      → MakesText bytes out (ConvertedIs.Bytes (8188 - start)) out'
+      → MakesText bytes out (Ok (8188 - start)) out'
   text_told fits out' e = record {
     reply = answer (text_of W.tree);
     right = the_result W.images (omega (arith, text_length));

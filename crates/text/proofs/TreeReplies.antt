@@ -10,7 +10,7 @@ use borrow.Author.Tests.{eqb-true, eqb-false}
 use lib.Dec.{eqb, ltb}
 use lib.ListN.{length, take}
 use lib.Seq.{length-take-le}
-use Rattle.paper.specs.declared.Converted.TheVariants as ConvertedIs
+use Rattle.std.specs.Prelude.{Err, Ok}
 use Rattle.paper.specs.declared.Refusal.TheVariants as RefusalIs
 use Rattle.paper.specs.BracketedText.{Writes}
 use Rattle.paper.specs.Conversions.{no_room, of_none, the_result}
@@ -51,7 +51,7 @@ module _ (text : List ℕ) (s : Reading) (labels image : List ℕ) (e : Ends tex
           let over-all : s.mode ≡ 65 = omega (arith, e.between, e.room.mode) in
           ap at_end (state_refused s labels image over-all)
 
-  pub text_refused : (out : List ℕ) → false ≡ whole → MakesTree text out (ConvertedIs.Refused RefusalIs.Text) out
+  pub text_refused : (out : List ℕ) → false ≡ whole → MakesTree text out (Err RefusalIs.Text) out
   text_refused out h = record { reply = refused (no 15); right = of_none never; answer = refl; written = refl }
     where
       never : (w : WrittenTree) → Writes text w → ⊥
@@ -92,7 +92,7 @@ module _ (text : List ℕ) (s : Reading) (labels image : List ℕ) (e : Ends tex
     image_long = ap length (sym the_tree.stands) ∙ length-take-le r.bytes image' bytes_inside
 
     -- ---- the answers
-    pub output_short : (out : List ℕ) → length out < r.bytes → MakesTree text out (ConvertedIs.Refused RefusalIs.ShortOutput) out
+    pub output_short : (out : List ℕ) → length out < r.bytes → MakesTree text out (Err RefusalIs.ShortOutput) out
     output_short out short = record {
       reply = refused (no 10);
       right = no_room the_tree.writes (omega (arith, image_long));
@@ -101,7 +101,7 @@ module _ (text : List ℕ) (s : Reading) (labels image : List ℕ) (e : Ends tex
     }
 
     pub image_told : (out : List ℕ) → r.bytes ≤ length out → (out' : List ℕ) → out' ≡ over (take r.bytes image') out
-        → MakesTree text out (ConvertedIs.Bytes r.bytes) out'
+        → MakesTree text out (Ok r.bytes) out'
     image_told out fits out' written = record {
       reply = answer (image_bytes the_tree.tree);
       right = the_result the_tree.writes (omega (arith, image_long));

@@ -1,15 +1,13 @@
 -- Each turn passes one more record, or is refused as all of them are.
-use Rattle.std.proofs.Common.{◌<◌, ◌∙◌, ap, subst, sym, arith}
-use Rattle.stream.specs.Keys.{TableAfter, TableOf}
-use Rattle.stream.specs.OneRecord.{says_query_step}
+use Rattle.std.proofs.Common.{◌<◌, subst, sym, arith}
+use Rattle.std.proofs.lemmas.Result.{err_from_is_err_and}
+use Rattle.stream.specs.Keys.{TableOf}
 use Rattle.stream.proofs.QueryReading.{QuerySoFar, at_record, no_records, query_ends, query_goes_on, query_refused, query_starts}
 use Rattle.stream.proofs.query.each_record.Goals as goal
 
 -- where a turn goes on, the record has passed, and the next one stands behind it
-passes : (c : goal.In-Next) → QuerySoFar c.args.input.now c.args.facts c.in-Next.next × (c.loop-state.state.at < c.in-Next.next.at)
-passes c =
-    query_goes_on _ _ _ c.loop-state.invariant.0 c.loop-state-test.true _
-    (sym (ap says_query_step c.in-Next.is) ∙ c.query_record.ensures.result_value)
+passes : (c : goal.In_ok-state) → QuerySoFar c.args.input.now c.args.facts c.in_ok-state.state × (c.loop-state.state.at < c.in_ok-state.state.at)
+passes c = query_goes_on _ _ _ c.loop-state.invariant.0 c.loop-state-test.true _ c.in_ok-state.ensures.result_value
 
 pub loop-state-init : goal.loop-state-init
 loop-state-init c = (
@@ -24,15 +22,12 @@ pub loop-state-smaller : goal.loop-state-smaller
 loop-state-smaller c = let h = passes c in omega (arith, h.1, h.0.before.inside)
 
 pub loop-state-preserved : goal.loop-state-preserved
-loop-state-preserved c = (
-  (passes c).0,
-  subst (λ r. TableAfter c.args.input.now c.args.facts r c.query_record.new.said) c.in-Next.is c.query_record.ensures.table_after,
-)
+loop-state-preserved c = ((passes c).0, c.in_ok-state.ensures.table_after)
 
-pub returns-in-Refused : goal.returns-in-Refused
-returns-in-Refused c =
-    query_refused _ _ _ c.loop-state.invariant.0 c.loop-state-test.true _
-    (sym (ap says_query_step c.in-Refused.is) ∙ c.query_record.ensures.result_value)
+pub returns-in_err-state : goal.returns-in_err-state
+returns-in_err-state c =
+    let p = err_from_is_err_and c.from_residual.result c.from_residual.ensures.1 in
+    rw (p.1, p.2) (query_refused _ _ _ c.loop-state.invariant.0 c.loop-state-test.true _ c.in_err-state.ensures.result_value)
 
 pub returns : goal.returns
 returns c = query_ends _ _ _ c.loop-state.invariant.0 c.loop-state-test.false
