@@ -5,7 +5,7 @@ use mathlib.Core.Bool.{false, false≢true, true}
 use mathlib.Core.List.{List}
 use mathlib.Core.Logic.{◌⊎◌, inl, inr, ⊎_elim}
 use mathlib.Core.Path.{◌∙◌, ◌≡◌, ap, refl, subst, sym}
-use Prim.Native.Nat.{◌+◌, ◌<◌, ◌≤◌, suc, ℕ}
+use Prim.Native.Nat.{◌<◌, ◌≤◌, suc, ℕ}
 use native.Mathlib.Omega.{arith}
 use borrow.Author.Tests.{eq-eqb, eqb-false, eqb-true, ltb-false, ltb-true, ne_eqb}
 use lib.Dec.{eqb, ltb}
@@ -97,24 +97,11 @@ pub record Linked (input : List ℕ) (from n : ℕ) (lists last : List ℕ) : Ty
   pub lasts : (s : ℕ) → s < symbols → Last input from n lists s (get_or last s 0)
   pub cells : (c s start : ℕ) → s < symbols → Cell input from n c s start → (c ≡ get_or last s 0) ⊎ Seeks input start s (get_or lists c 0)
 
--- ---- no record passed: each symbol below m has no rule
-abbrev pub Unlinked : ℕ → ℕ → List ℕ → List ℕ → Type 0
-Unlinked end m lists last = (s : ℕ) → s < m → (get_or lists s 0 ≡ end) × (get_or last s 0 ≡ s)
+-- ---- no record passed: no symbol has a rule
+abbrev Unlinked : ℕ → List ℕ → List ℕ → Type 0
+Unlinked end lists last = (s : ℕ) → s < symbols → (get_or lists s 0 ≡ end) × (get_or last s 0 ≡ s)
 
--- one more symbol
-pub unlinked_more : (end m : ℕ) (lists last : List ℕ) → Unlinked end m lists last → m < length lists → m < length last
-    → Unlinked end (m + 1) (set lists m end) (set last m m)
-unlinked_more end m lists last h a b s l = ⊎_elim (λ e. same (eqb-true s m e)) (λ e. earlier (eqb-false s m e)) (which (eqb s m))
-  where
-    same : s ≡ m → (get_or (set lists m end) s 0 ≡ end) × (get_or (set last m m) s 0 ≡ s)
-    same e = rw e (get_or-set_same lists m end 0 a, get_or-set_same last m m 0 b)
-
-    earlier : (s ≡ m → ⊥) → (get_or (set lists m end) s 0 ≡ end) × (get_or (set last m m) s 0 ≡ s)
-    earlier n =
-        (get_or-set_other lists m s end 0 n ∙ (h s (omega (arith, n))).0, get_or-set_other last m s m 0 n ∙ (h s (omega (arith, n))).1)
-
--- all symbols
-linked_none : (input : List ℕ) (from : ℕ) (lists last : List ℕ) → Unlinked (length input) symbols lists last → Linked input from 0 lists last
+linked_none : (input : List ℕ) (from : ℕ) (lists last : List ℕ) → Unlinked (length input) lists last → Linked input from 0 lists last
 linked_none input from lists last h = record {
   lasts = λ s b.
       subst (Last input from 0 lists s) (sym (h s b).1)
@@ -263,7 +250,7 @@ pub record Going (input : List ℕ) (from size at : ℕ) (lists last : List ℕ)
   pub long : length last ≡ symbols
   pub linked : Linked input from n lists last
 
-pub going_starts : (input : List ℕ) (from : ℕ) (lists last : List ℕ) → length last ≡ symbols → Unlinked (length input) symbols lists last
+pub going_starts : (input : List ℕ) (from : ℕ) (lists last : List ℕ) → length last ≡ symbols → Unlinked (length input) lists last
     → Going input from (length lists) from lists last
 going_starts input from lists last long h =
     record { n = 0; here = refl; sized = refl; long = long; linked = linked_none input from lists last h }

@@ -1,5 +1,6 @@
 -- A turn puts one more record's rule behind the last one of its symbol, and its accepting state in; behind the last record all is told.
-use Rattle.std.proofs.Common.{◌+◌, ◌<◌, ◌≤◌, length, ◌∙◌, ap, subst, arith}
+use Rattle.std.proofs.Common.{rules, ◌≡◌, ◌+◌, ◌<◌, ◌≤◌, length, ◌∙◌, subst, arith}
+use Rattle.stream.specs.Positions.{after}
 use Rattle.stream.proofs.AcceptingBits.{accepted_all, accepted_more, accepted_none}
 use Rattle.stream.proofs.Linking.{Going, cell_room, goes_on, goes_past, going_behind, going_ends, going_starts, last_before}
 use Rattle.stream.proofs.lists.link_rules.Goals as goal
@@ -7,9 +8,9 @@ use Rattle.stream.proofs.lists.link_rules.Goals.{then-symbol-lt-SYMBOLS, else-sy
 
 pub loop-at-init : goal.loop-at-init
 loop-at-init c =
-    let s = c.start_lists in (
-      subst (λ size. Going c.args.input.now c.args.from size c.args.from s.new.lists s.new.last) s.auto.lists
-          (going_starts _ _ _ _ s.auto.last s.ensures),
+    let s = c.start_lists-last in (
+      subst (λ size. Going c.args.input.now c.args.from size c.args.from s.new.lists s.result) s.auto.lists
+          (going_starts _ _ _ _ (search rules) s.ensures),
       accepted_none _ _,
     )
 
@@ -33,7 +34,7 @@ pub loop-at-preserved : goal.loop-at-preserved
 loop-at-preserved c =
     let k = c.loop-at.invariant in
     let here : c.loop-at.at < length c.args.input.now = omega arith in
-    let past = ap (λ n. c.loop-at.at + 1 + n) c.body_length.ensures in (
+    let past : c.loop-at.at + (1 + c.body_length.result) ≡ after c.args.input.now c.loop-at.at = omega (arith, c.body_length.ensures) in (
       elim c.if-symbol-lt-SYMBOLS.branch [
         | then-symbol-lt-SYMBOLS w ↦
             goes_on _ _ _ _ _ _ k.0 here _ _ c.symbol_at-symbol.ensures past c.requires.room w.if-symbol-lt-SYMBOLS.true _ _ _
