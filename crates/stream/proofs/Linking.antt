@@ -11,6 +11,7 @@ use borrow.Author.Tests.{eq-eqb, eqb-false, eqb-true, ltb-false, ltb-true, ne_eq
 use lib.Dec.{eqb, ltb}
 use lib.ListN.{drop, get_or, length, length-set, set}
 use lib.Seq.{get_or-set_other, get_or-set_same}
+use Rattle.std.specs.Prelude.{None, Some}
 use Rattle.paper.specs.Lists.{has}
 use Rattle.paper.specs.Query.{accepting_of}
 use Rattle.paper.specs.Questions.{has_place}
@@ -132,7 +133,13 @@ module _ (input : List ℕ) (from n : ℕ) (lists last : List ℕ) (k : Linked i
   }
 
   -- a rule of symbol x: the last cell of x tells it, and its own cell is the last one
-  module _ (x : ℕ) (low : x < symbols) (is : SymbolAt input at x) (long : length last ≡ symbols) (room : cell_of from at < length lists) where
+  module _ (x : ℕ) (it : SymbolAt input at (Some x)) (long : length last ≡ symbols) (room : cell_of from at < length lists) where
+    low : x < symbols
+    low = it.0
+
+    is : (s : ℕ) → s < symbols → is_for s (record_at input at) ≡ eqb x s
+    is = it.1
+
     abbrev old : ℕ
     old = get_or last x 0
 
@@ -272,35 +279,32 @@ module _ (input : List ℕ) (from size at : ℕ) (lists last : List ℕ) (k : Go
     last_before s b =
         subst (λ p. get_or last s 0 < cell_of from p) (sym k.here) (last_low input from k.n lists last k.linked reached s b)
 
-    module _ (x to : ℕ) (is : SymbolAt input at x) (ends : to ≡ after input at) where
-      its_symbol : SymbolAt input (place input from k.n) x
-      its_symbol = subst (λ p. SymbolAt input p x) k.here is
-
+    module _ (to : ℕ) (ends : to ≡ after input at) where
       next_place : to ≡ place input from (suc k.n)
       next_place = ends ∙ ap (after input) k.here
 
       -- one more record, which is no rule that is listed
-      pub goes_past : symbols ≤ x → Going input from size to lists last
-      goes_past h = record {
+      pub goes_past : SymbolAt input at None → Going input from size to lists last
+      goes_past is = record {
         n = suc k.n;
         here = next_place;
         sized = k.sized;
         long = k.long;
-        linked = linked_on input from k.n lists last k.linked reached (λ s b. its_symbol s b ∙ ne_eqb x s (λ e. omega arith));
+        linked = linked_on input from k.n lists last k.linked reached (subst (λ p. SymbolAt input p None) k.here is);
       }
 
       -- or is one
-      pub goes_on : Room input from size → x < symbols → (cell : ℕ) (lists' last' : List ℕ) → cell ≡ cell_of from at
+      pub goes_on : Room input from size → (x : ℕ) → SymbolAt input at (Some x) → (cell : ℕ) (lists' last' : List ℕ) → cell ≡ cell_of from at
           → lists' ≡ set (set lists (get_or last x 0) at) cell (get_or lists (get_or last x 0) 0) → last' ≡ set last x cell
           → Going input from size to lists' last'
-      goes_on r low cell lists' last' c e f = record {
+      goes_on r x is cell lists' last' c e f = record {
         n = suc k.n;
         here = next_place;
         sized = rw e (length-set (set lists (get_or last x 0) at) cell _ ∙ length-set lists (get_or last x 0) at ∙ k.sized);
         long = rw f (length-set last x cell ∙ k.long);
         linked =
             rw (e, f, c, k.here)
-            (linked_more input from k.n lists last k.linked reached x low its_symbol k.long
+            (linked_more input from k.n lists last k.linked reached x (subst (λ p. SymbolAt input p (Some x)) k.here is) k.long
             (subst (λ p. cell_of from p < length lists) k.here (cell_room r)));
       }
 

@@ -40,18 +40,18 @@ pub const LIST_NUMBERS: usize = FIRST_CELL + MOST_BYTES / SHORTEST_RULE;
 // The highest position that a number of the lists can tell: the end of an input is one.
 const HIGHEST_POSITION: usize = 65535;
 
-// The number of the symbol of a kind and a label; `SYMBOLS` where the kind is no rule's, or the label one
-// that no node has.
-fn symbol_of(kind: u8, label: u8) -> usize
+// The number of the symbol of a kind and a label; none where the kind is no rule's, or the label one that
+// no node has.
+fn symbol_of(kind: u8, label: u8) -> Option<usize>
     ensures { SymbolOf kind label result }
 {
     if HIGHEST_LABEL < label {
-        return SYMBOLS;
+        return None;
     }
     match kind {
-        LEAF_RULE => label as usize,
-        BRANCH_RULE => LABELS + label as usize,
-        _ => SYMBOLS,
+        LEAF_RULE => Some(label as usize),
+        BRANCH_RULE => Some(LABELS + label as usize),
+        _ => None,
     }
 }
 
@@ -63,9 +63,8 @@ fn cell_of(behind: usize) -> usize
     FIRST_CELL + behind / SHORTEST_RULE
 }
 
-// The symbol of the rule at a position; `SYMBOLS` where none stands, or one with a label that no node
-// has.
-fn symbol_at(input: &[u8], at: usize) -> usize
+// The symbol of the rule at a position; none where none stands, or one with a label that no node has.
+fn symbol_at(input: &[u8], at: usize) -> Option<usize>
     requires { at < length input.now }
     ensures { SymbolAt input.now at result }
 {
@@ -124,10 +123,8 @@ fn link_rules(input: &[u8], from: usize, lists: &mut [u16])
     // Ends with the input: a turn steps over a kind at least.
     let mut at = from;
     while at < input.len() {
-        let symbol = symbol_at(input, at);
-        if symbol < SYMBOLS {
-            let cell = cell_of(at - from);
-            add_rule(lists, &mut last, symbol, cell, at as u16);
+        if let Some(symbol) = symbol_at(input, at) {
+            add_rule(lists, &mut last, symbol, cell_of(at - from), at as u16);
         }
         accepting = with_state(input, at, accepting);
         at += 1 + body_length(input[at]);
@@ -162,7 +159,7 @@ fn number_in(lists: &[u16], cell: usize) -> usize
 pub fn first_rule(lists: &[u16], kind: u8, label: u8) -> usize
     ensures { TellsFirst lists.now kind label result }
 {
-    number_in(lists, symbol_of(kind, label))
+    symbol_of(kind, label).map_or(0, |symbol| number_in(lists, symbol))
 }
 
 // The rule behind one, of its kind and label; that one stands so many bytes behind the head.
