@@ -12,5 +12,6 @@ pub mod Cells
 pub mod Facing
 pub mod Heads
 pub mod Answered
+pub mod Questions
 pub mod Replying
 pub mod Counting

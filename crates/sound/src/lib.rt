@@ -10,13 +10,11 @@ ghost use Rattle.sound.specs.Counting.{rows_in_set};
 ghost use Rattle.sound.specs.Face.{Weighs, Counts};
 ghost use Rattle.sound.specs.Passing.{Ready, Passed};
 
-use crate::counted::finish;
 use crate::head::{begin, judge};
 use crate::record::next;
 use crate::state::State;
 use paper::{Head, Record, Refusal, Set};
 
-mod counted;
 mod head;
 mod record;
 mod state;
@@ -45,8 +43,10 @@ pub fn weigh(head: Head, table: &[Record], work: &mut [u64]) -> Result<(), Refus
 pub fn count(head: Head, table: &[Record], work: &mut [u64]) -> Result<u64, Refusal>
     ensures { Counts head table.now work.old result work.new }
 {
-    let w = weigh(head, table, &mut *work);
-    finish(w, head, &mut *work)
+    weigh(head, table, work)?;
+    let rows = set_rows(head.set, work);
+    clear(work, head.used as usize);
+    Ok(rows)
 }
 
 // All used records, one after the other. It ends behind the last of them, since `at` rises by 1 a
