@@ -43,8 +43,8 @@ impl QueryHead {
         if input.len() < rules {
             return Err(StreamRefusal::Query(at));
         }
-        let arity = input[at + 1] as usize;
-        let states = input[at + 2] as usize;
+        let arity = usize::from(input[at + 1]);
+        let states = usize::from(input[at + 2]);
         if !(1..=MOST_PLACES).contains(&arity) || !(1..=MOST_STATES).contains(&states) {
             return Err(StreamRefusal::Query(at));
         }

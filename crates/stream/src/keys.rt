@@ -29,12 +29,12 @@ impl QueryHead {
     }
 }
 
-// A byte as a number, in a function of its own so that the cast is proved once.
+// A byte as a number.
 fn number_at(input: &[u8], at: usize) -> usize
     requires { at < length input.now }
     ensures { (result ≡ get_or input.now at 0) × (result < 256) }
 {
-    input[at] as usize
+    usize::from(input[at])
 }
 
 // The key of a rule: its label, its flag, and what stands behind them, as the digits of a

@@ -5,7 +5,6 @@ ghost use Rattle.std.specs.Prelude.{false, ◌≡◌, ℕ, ◌+◌, ◌-◌, ◌
 ghost use Rattle.stream.specs.RuleLists.{Lists, SymbolOf, cell_behind, symbols, SymbolAt, Room, RuleLists, AddsState, TellsFirst, TellsNext, TellsAccepting};
 
 use crate::lengths::body_length;
-use crate::record::byte_at;
 use paper::kinds::{ACCEPTING_STATE, BRANCH_RULE, LEAF_RULE};
 use paper::limits::{HIGHEST_LABEL, MOST_RULES, MOST_STATES};
 use std::array;
@@ -49,8 +48,8 @@ fn symbol_of(kind: u8, label: u8) -> Option<usize>
         return None;
     }
     match kind {
-        LEAF_RULE => Some(label as usize),
-        BRANCH_RULE => Some(LABELS + label as usize),
+        LEAF_RULE => Some(usize::from(label)),
+        BRANCH_RULE => Some(LABELS + usize::from(label)),
         _ => None,
     }
 }
@@ -61,6 +60,14 @@ fn cell_of(behind: usize) -> usize
     ensures { result ≡ cell_behind behind }
 {
     FIRST_CELL + behind / SHORTEST_RULE
+}
+
+// The byte at a position, and 0 where the input has ended: a number of a record that is cut. So records can
+// be listed before they are known to be whole: `list_rules` takes any bytes.
+fn byte_at(input: &[u8], at: usize) -> u8
+    ensures { result ≡ get_or input.now at 0 }
+{
+    input.get(at).copied().unwrap_or(0)
 }
 
 // The symbol of the rule at a position; none where none stands, or one with a label that no node has.
@@ -88,7 +95,7 @@ fn add_rule(lists: &mut [u16], last: &mut [u16], symbol: usize, cell: usize, at:
         (get_or lists.old (get_or last.old symbol 0) 0) }
     ensures last_after { last.new ≡ set last.old symbol cell }
 {
-    let old = last[symbol] as usize;
+    let old = usize::from(last[symbol]);
     let end = lists[old];
     lists[old] = at;
     lists[cell] = end;
@@ -101,14 +108,12 @@ fn with_state(input: &[u8], at: usize, accepting: u16) -> u16
     requires { at < length input.now }
     ensures { AddsState input.now at accepting result }
 {
-    if input[at] != ACCEPTING_STATE {
-        return accepting;
+    let state = usize::from(byte_at(input, at + 1));
+    if input[at] == ACCEPTING_STATE && state < MOST_STATES {
+        accepting | 1u16 << state
+    } else {
+        accepting
     }
-    let state = byte_at(input, at + 1) as usize;
-    if MOST_STATES <= state {
-        return accepting;
-    }
-    accepting | 1u16 << state
 }
 
 // The lists of the rules that stand from a position on, in file order: a rule is put behind the last
@@ -173,8 +178,5 @@ pub fn rule_after(lists: &[u16], behind: usize) -> usize
 pub fn accepts(lists: &[u16], state: usize) -> bool
     ensures { TellsAccepting lists.now state result × (16 ≤ state → result ≡ false) }
 {
-    if MOST_STATES <= state {
-        return false;
-    }
-    (number_in(lists, ACCEPTING_CELL) >> state) % 2 == 1
+    state < MOST_STATES && (number_in(lists, ACCEPTING_CELL) >> state) % 2 == 1
 }
