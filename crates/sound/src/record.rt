@@ -132,7 +132,7 @@ fn record_fits(r: Record, nodes: u16, arity: u16) -> bool
 }
 
 // The weight of record `at`, if it is sound.
-pub(crate) fn weight(r: Record, at: usize, head: Head, work: &[u64]) -> Option<u64>
+pub(crate) fn record_weight(r: Record, at: usize, head: Head, work: &[u64]) -> Option<u64>
     requires few_places { head.arity ≤ 4 }
     requires weighable { Weighable at work.now }
     ensures { result ≡ weight_for r.flag (rows_found head r at work.now) }
