@@ -141,5 +141,5 @@ module _ (h : Head) (table : List Record) (work : List ℕ) where
     judges c is = record {
       right = is ∙ judged;
       weighed = λ passes. sound_work (sound_is h table (sym (is ∙ judged) ∙ passes));
-      kept = zeros_agree work h.used weighed room long P.kept;
+      kept = zeros_agree work h.used weighed long P.kept;
     }

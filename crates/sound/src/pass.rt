@@ -3,7 +3,7 @@ ghost use Rattle.std.specs.Prelude.{◌≤◌, length};
 ghost use Rattle.sound.specs.Passing.{Passed, Judged};
 
 use crate::head::{head_fits, set_fits};
-use crate::record::weight;
+use crate::record::record_weight;
 use paper::{Head, Record};
 
 // Whether the set is sound. Then the work has the weights of its used records.
@@ -26,7 +26,7 @@ fn weigh_records(head: Head, table: &[Record], work: &mut [u64]) -> bool
     ensures { Passed head table.now work.old result work.new }
 {
     for (at, &record) in table[..head.used as usize].iter().enumerate() {
-        let Some(weight) = weight(record, at, head, work) else {
+        let Some(weight) = record_weight(record, at, head, work) else {
             return false;
         };
         work[at] = weight;

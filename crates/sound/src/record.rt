@@ -2,7 +2,7 @@
 // the flags, then the weight of each kind, then that of any record; one that is not sound has none.
 ghost use Rattle.std.specs.Prelude.{◌&&◌, ◌≡◌, ◌+◌, ◌*◌, ◌≤◌, eqb, length};
 ghost use Rattle.paper.specs.Sound.{apart, most_rows};
-ghost use Rattle.sound.specs.OneRecord.{if_few, single_rows, union_rows, product_rows, rows_by, rows_found, weight_for, record_fits, before, Weighable};
+ghost use Rattle.sound.specs.OneRecord.{single_rows, union_rows, product_rows, rows_by, rows_found, weight_for, record_fits, before, Weighable};
 ghost use Rattle.sound.specs.Weights.{rows_in};
 
 use crate::weight::{flag_in, rows_in, weight_of};
@@ -38,13 +38,6 @@ fn keeps(left: u64, right: u64, flag: u64) -> bool
     filled(left) == places && filled(right) == places
 }
 
-// So many rows, if a record may list so many.
-fn if_few(rows: u64) -> Option<u64>
-    ensures { result ≡ if_few rows }
-{
-    if rows <= MOST_ROWS { Some(rows) } else { None }
-}
-
 // The weight of a single: it has one row, and no operands.
 fn single_weight(r: Record) -> Option<u64>
     ensures { result ≡ weight_for r.flag (single_rows r) }
@@ -76,7 +69,8 @@ fn union_weight(flag: u64, left: u64, right: u64) -> Option<u64>
     }
 }
 
-// The weight of a product of records with these weights.
+// The weight of a product of records with these weights. The rows are multiplied as u128, which any two
+// such numbers fit: a division in its place would be slow.
 fn product_weight(flag: u64, left: u64, right: u64) -> Option<u64>
     requires { flag ≤ 65535 }
     ensures { result ≡ weight_for flag (product_rows flag left right) }
@@ -84,8 +78,12 @@ fn product_weight(flag: u64, left: u64, right: u64) -> Option<u64>
     if !adds(flag_in(left), flag_in(right), flag) {
         return None;
     }
-    let rows = if_few(rows_in(left).checked_mul(rows_in(right))?)?;
-    Some(weight_of(rows, flag))
+    let rows = rows_in(left) as u128 * rows_in(right) as u128;
+    if rows <= MOST_ROWS as u128 {
+        Some(weight_of(rows as u64, flag))
+    } else {
+        None
+    }
 }
 
 // The weights of the operands of record `at`, where both are lower: so no record leads back to itself.
@@ -134,7 +132,7 @@ fn record_fits(r: Record, nodes: u16, arity: u16) -> bool
 }
 
 // The weight of record `at`, if it is sound.
-pub(crate) fn weight(r: Record, at: usize, head: Head, work: &[u64]) -> Option<u64>
+pub(crate) fn record_weight(r: Record, at: usize, head: Head, work: &[u64]) -> Option<u64>
     requires few_places { head.arity ≤ 4 }
     requires weighable { Weighable at work.now }
     ensures { result ≡ weight_for r.flag (rows_found head r at work.now) }
