@@ -1,15 +1,6 @@
 pub mod Endings
 pub mod TokenPass
 pub mod BytePass
-pub mod Growing
-pub mod Branching
-pub mod SiblingsEnd
-pub mod Digits
-pub mod Comments
-pub mod Changes
-pub mod Symbols
-pub mod OneByte
-pub mod WholeText
 pub mod JudgedImages
 pub mod WrittenTexts
 pub mod ImageRecords

@@ -1,16 +1,12 @@
 -- What `tree_to_text` answers of bytes that are no image.
 use mathlib.Core.Bool.{false, false≢true, true}
 use mathlib.Core.List.{List}
-use mathlib.Core.Path.{◌∙◌, ◌≡◌, ap, refl, sym}
+use mathlib.Core.Path.{◌∙◌, ◌≡◌, ap, sym}
 use Prim.Native.Nat.{ℕ}
-use Rattle.std.specs.Prelude.{Err}
-use Rattle.paper.specs.declared.Refusal.TheVariants as RefusalIs
-use Rattle.paper.specs.Conversions.{Images, of_none}
+use Rattle.paper.specs.Conversions.{Images}
 use Rattle.paper.specs.Image.{image_bytes}
-use Rattle.paper.specs.Refusals.{refused, no}
 use Rattle.paper.specs.WrittenTree.{WrittenTree}
 use Rattle.writings.proofs.Images.{image_read}
-use Rattle.text.specs.Face.{MakesText}
 use Rattle.text.specs.JudgeImage.{accepts_image, image_judged, nothing_read}
 use Rattle.text.proofs.JudgedImages.{image_accepted}
 
@@ -20,11 +16,5 @@ images_accepted bytes w I =
     ap (λ t. accepts_image (image_judged nothing_read t)) (sym I.image)
     ∙ (image_accepted (image_bytes w) w (image_read w I.allowed)).0
 
-pub image_refused : (bytes out : List ℕ) → accepts_image (image_judged nothing_read bytes) ≡ false
-    → MakesText bytes out (Err RefusalIs.Text) out
-image_refused bytes out e = record {
-  reply = refused (no 15);
-  right = of_none (λ w I. false≢true (sym e ∙ images_accepted bytes w I));
-  answer = refl;
-  written = refl;
-}
+pub no_image : (bytes : List ℕ) → accepts_image (image_judged nothing_read bytes) ≡ false → (w : WrittenTree) → Images bytes w → ⊥
+no_image bytes e w I = false≢true (sym e ∙ images_accepted bytes w I)

@@ -7,7 +7,6 @@ mod bytes;
 mod canonical;
 mod image;
 mod pass;
-mod reading;
 mod records;
 mod stack;
 mod tokens;
@@ -16,8 +15,6 @@ use crate::bytes::copy_to_start;
 use crate::canonical::write_text;
 use crate::image::{RECORD, is_image};
 use crate::pass::read_text;
-use crate::reading::is_whole;
-use crate::records::end_siblings;
 use paper::Refusal;
 use paper::limits::MOST_WRITTEN_NODES;
 
@@ -28,14 +25,7 @@ pub const LONGEST_IMAGE: usize = RECORD * (2 * MOST_WRITTEN_NODES + 1);
 pub fn text_to_tree(text: &[u8], out: &mut [u8]) -> Result<usize, Refusal>
     ensures { MakesTree text.now out.old result out.new }
 {
-    let mut labels = [0u8; MOST_WRITTEN_NODES];
-    let mut image = [0u8; LONGEST_IMAGE];
-    let s = read_text(text, &mut labels, &mut image);
-    if !is_whole(s) {
-        return Err(Refusal::Text);
-    }
-    let ended = end_siblings(s, &labels, &mut image);
-    copy_to_start(&image[..ended.bytes], out)
+    read_text(text, out)
 }
 
 // The way back, into the canonical text: refusals 15 and 10. The text is made apart, so that an output that is too short stays as it is.
