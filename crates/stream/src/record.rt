@@ -6,5 +6,5 @@ ghost use Rattle.std.specs.Prelude.{◌≡◌, get_or};
 pub(crate) fn byte_at(input: &[u8], at: usize) -> u8
     ensures { result ≡ get_or input.now at 0 }
 {
-    if at < input.len() { input[at] } else { 0 }
+    input.get(at).copied().unwrap_or(0)
 }

@@ -13,10 +13,7 @@ pub mod WholeText
 pub mod JudgedImages
 pub mod WrittenTexts
 pub mod ImageRecords
-pub mod WritingBack
-pub mod WaitingNodes
-pub mod WrittenRecords
-pub mod ReadBack
 pub mod WritingTexts
+pub mod Copying
 pub mod TextReplies
 pub mod TreeReplies

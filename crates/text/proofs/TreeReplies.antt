@@ -9,13 +9,14 @@ use native.Mathlib.Omega.{arith}
 use borrow.Author.Tests.{eqb-true, eqb-false}
 use lib.Dec.{eqb, ltb}
 use lib.ListN.{length, take}
-use lib.Seq.{length-take-le}
-use Rattle.std.specs.Prelude.{Err, Ok}
+use Rattle.std.specs.Prelude.{Err, Ok, Result}
+use Rattle.paper.specs.declared.Refusal.{Refusal}
+use Rattle.paper.specs.declared.Refusal.TheVariants.{ShortOutput}
 use Rattle.paper.specs.declared.Refusal.TheVariants as RefusalIs
 use Rattle.paper.specs.BracketedText.{Writes}
-use Rattle.paper.specs.Conversions.{no_room, of_none, the_result}
+use Rattle.paper.specs.Conversions.{of_none}
 use Rattle.paper.specs.Image.{image_bytes}
-use Rattle.paper.specs.Refusals.{answer, over, refused, no}
+use Rattle.paper.specs.Refusals.{over, refused, no}
 use Rattle.paper.specs.WrittenTree.{WrittenTree}
 use Rattle.laws.proofs.Lists.{both_true}
 use Rattle.writings.specs.ReadText.{read_text}
@@ -24,6 +25,7 @@ use Rattle.text.specs.Face.{MakesTree}
 use Rattle.text.specs.Pass.{at_end, image_of_text, siblings_ended}
 use Rattle.text.specs.Reading.{Reading, Grown, kept_in, state_in, Ended, Ends}
 use Rattle.text.proofs.BytePass.{text_image}
+use Rattle.text.proofs.Copying.{converts}
 use Rattle.text.proofs.Changes.{state_outside, state_refused}
 
 -- the first bytes of a buffer fit where so many do
@@ -88,23 +90,9 @@ module _ (text : List ℕ) (s : Reading) (labels image : List ℕ) (e : Ends tex
     bytes_inside =
         omega (arith, g.counted, g.inside, g.long, e.room.room, e.room.few, e.room.image_long, e.room.labels_long)
 
-    image_long : length (image_bytes the_tree.tree) ≡ r.bytes
-    image_long = ap length (sym the_tree.stands) ∙ length-take-le r.bytes image' bytes_inside
-
     -- ---- the answers
-    pub output_short : (out : List ℕ) → length out < r.bytes → MakesTree text out (Err RefusalIs.ShortOutput) out
-    output_short out short = record {
-      reply = refused (no 10);
-      right = no_room the_tree.writes (omega (arith, image_long));
-      answer = refl;
-      written = refl;
-    }
-
-    pub image_told : (out : List ℕ) → r.bytes ≤ length out → (out' : List ℕ) → out' ≡ over (take r.bytes image') out
-        → MakesTree text out (Ok r.bytes) out'
-    image_told out fits out' written = record {
-      reply = answer (image_bytes the_tree.tree);
-      right = the_result the_tree.writes (omega (arith, image_long));
-      answer = ap answer (sym image_long);
-      written = written ∙ ap (λ x. over x out) the_tree.stands;
-    }
+    pub image_copied : (out : List ℕ) (t : Result ℕ Refusal) (out' : List ℕ)
+        → (length (take r.bytes image') ≤ length out → (t ≡ Ok (length (take r.bytes image'))) × (out' ≡ over (take r.bytes image') out))
+        → (length out < length (take r.bytes image') → (t ≡ Err ShortOutput) × (out' ≡ out))
+        → MakesTree text out t out'
+    image_copied out = converts (Writes text) image_bytes the_tree.tree the_tree.writes (take r.bytes image') out the_tree.stands

@@ -1,3 +1,4 @@
+pub mod Stack
 pub mod Face
 pub mod Bounds
 pub mod Pass
