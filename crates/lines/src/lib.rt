@@ -17,6 +17,13 @@ use std::marker::Model;
 // The digits of a number below 2 to the power of 64, at most.
 pub const LONGEST_NUMBER: usize = 20;
 
+// The line of a refusal, at most.
+pub const LONGEST_REFUSAL: usize = REFUSED.len() + LONGEST_NUMBER + AT.len() + LONGEST_NUMBER + 1;
+
+const REFUSED: &[u8] = b"refused ";
+
+const AT: &[u8] = b" at ";
+
 // A text of at most `SIZE` bytes, which stands in the value itself: nothing is allocated.
 #[derive(Drop)]
 pub struct Text<const SIZE: usize> {
@@ -108,10 +115,10 @@ impl<const SIZE: usize> Text<SIZE> {
     pub fn put_refusal(&mut self, why: StreamRefusal)
         ensures { self.new ≡ put_refusal SIZE (no_of_stream why) self.old }
     {
-        self.put_word(b"refused ");
+        self.put_word(REFUSED);
         self.put_number(u64::from(why.number()));
         match why.position() {
-            Some(at) => self.put_fact(b" at ", at as u64),
+            Some(at) => self.put_fact(AT, at as u64),
             None => self.put_byte(b'\n'),
         }
     }
