@@ -33,8 +33,9 @@ pub fn read_tree(input: &[u8]) -> Result<TreeFacts, StreamRefusal>
     // How many subtrees are unjoined is enough: which ones a branch joins decides no refusal.
     let mut unjoined = 0;
     let mut most = 0;
-    // Ends by the first kind that is not the tree's, with the input, or by the first record at
-    // fault: what comes later cannot change the refusal. A turn steps over one whole record.
+    // A `while`, as a record is as long as its kind says. It ends by the first kind that is not the
+    // tree's, with the input, or by the first record at fault: what comes later cannot change the
+    // refusal. A turn steps over one whole record.
     while is_tree_record(input, at) {
         // 2 before 1: the 4,096th tree kind is seen before its body.
         if MOST_NODES <= nodes {
