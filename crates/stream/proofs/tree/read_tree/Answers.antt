@@ -44,8 +44,8 @@ loop-at-preserved c =
           (omega (arith, c.body_length.ensures)) c.if-input-at-gt-HIGHEST_LABEL.false w.if-input-at-eq-LEAF.false w.if-unjoined-lt2.false)
     ])
 
-pub returns-then-unjoined-eq1 : goal.returns-then-unjoined-eq1
-returns-then-unjoined-eq1 c = tree_read _ _ _ _ _ c.loop-at.invariant (sym c.loop-at-test.ensures) c.if-unjoined-eq1.true
+pub returns-then-unjoined-ne1 : goal.returns-then-unjoined-ne1
+returns-then-unjoined-ne1 c = not_one _ _ _ _ _ c.loop-at.invariant (sym c.loop-at-test.ensures) c.if-unjoined-ne1.true
 
-pub returns-else-unjoined-eq1 : goal.returns-else-unjoined-eq1
-returns-else-unjoined-eq1 c = not_one _ _ _ _ _ c.loop-at.invariant (sym c.loop-at-test.ensures) c.if-unjoined-eq1.false
+pub returns : goal.returns
+returns c = tree_read _ _ _ _ _ c.loop-at.invariant (sym c.loop-at-test.ensures) c.if-unjoined-ne1.false
