@@ -99,15 +99,15 @@ end_holds (t ∷ ts) n a = ap (λ z. cond t.1 z (refused t.0)) (end_holds ts n a
 
 -- behind a head with this arity and these states the tests are those behind it
 pub tests_behind_lem : (f : QueryFacts) (head : StreamRecord) → number head 0 ≡ f.arity → number head 1 ≡ f.states
-    → (at : ℕ) (before records : List StreamRecord)
-    → at_each query_tests at (head ∷ before) records ≡ at_each (tests_behind f) (behind at (head ∷ [])) before records
-tests_behind_lem f head a b at before [] = refl
-tests_behind_lem f head a b at before (r ∷ rs) =
-    ap₂ {C = List Test} (λ x y. x ++ y) (ap (λ Q. tests_at (behind at (head ∷ before)) (later_tests Q r)) query)
-    (tests_behind_lem f head a b at (before ++ (r ∷ [])) rs)
+    → (at : ℕ) (earlier records : List StreamRecord)
+    → at_each query_tests at (head ∷ earlier) records ≡ at_each (tests_behind f) (behind at (head ∷ [])) earlier records
+tests_behind_lem f head a b at earlier [] = refl
+tests_behind_lem f head a b at earlier (r ∷ rs) =
+    ap₂ {C = List Test} (λ x y. x ++ y) (ap (λ Q. tests_at (behind at (head ∷ earlier)) (later_tests Q r)) query)
+    (tests_behind_lem f head a b at (earlier ++ (r ∷ [])) rs)
   where
-    query : query_of (head ∷ before) ≡ query_with f before
-    query = λ i. record { arity = a i; states = b i; rules = rules_of before; accepting = accepting_of before }
+    query : query_of (head ∷ earlier) ≡ query_with f earlier
+    query = λ i. record { arity = a i; states = b i; rules = rules_of earlier; accepting = accepting_of earlier }
 
 module _ (input : List ℕ) (at : ℕ) where
   abbrev head : StreamRecord

@@ -18,7 +18,7 @@ pub struct QueryFacts {
 
 // The numbers of a head that was read, which are in range. They are in `QueryFacts` without that, as
 // the definitions have them of every input.
-#[derive(Clone, Copy)]
+#[derive(Clone, Copy, Debug, PartialEq, Eq)]
 pub(crate) struct QueryHead {
     pub(crate) facts: QueryFacts,
     ghost few_places: { facts.arity ≤ 4 },

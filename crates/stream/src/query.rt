@@ -22,8 +22,8 @@ fn each_record(input: &[u8], head: QueryHead, said: &mut [u64]) -> Result<QueryF
 {
     let mut at = head.facts.rules;
     let mut rules = 0;
-    // Ends with the input, or by the first record at fault. A turn steps over one record that is
-    // whole, so never behind the end.
+    // A `while`, as records differ in length. It ends with the input, or by the first record at fault:
+    // a turn steps over one record that is whole, so never behind the end.
     while at < input.len() {
         // 3 before 4: whether a record fits is asked before what the earlier ones say.
         if !record_fits(input, head, at) {
