@@ -8,7 +8,7 @@ use mathlib.Core.Logic.{◌↔◌, ⊎_elim}
 use mathlib.Core.Path.{◌∙◌, ◌≡◌, ap, refl, sym}
 use Prim.Native.Nat.{◌+◌, ◌-◌, ◌<◌, ◌≤◌, suc, zero, ℕ}
 use native.Mathlib.Omega.{arith}
-use borrow.Author.Tests.{eq-eqb, eqb-false, eqb-true, leb-true}
+use borrow.Author.Tests.{eqb-false, eqb-true, leb-true}
 use lib.Dec.{eqb, leb}
 use lib.ListN.{drop, get_or, length, length-set, set, take}
 use lib.Seq.{drop-set-lt, get_or-set_other, get_or-set_same, get_or-take, length-take-le}
@@ -25,7 +25,7 @@ use Rattle.laws.specs.QuestionCauses.{SetFits, Sound}
 use Rattle.laws.specs.Said.{StandsIn}
 use Rattle.laws.proofs.Listed.{row_stands, stands_row}
 use Rattle.laws.proofs.Bits.{no_places}
-use Rattle.laws.proofs.Lists.{both_true, iff_eq, or_cases, or_left, or_right, which}
+use Rattle.laws.proofs.Lists.{both_true, iff_eq, in_at, or_cases, true_has, which}
 use Rattle.sound.proofs.Overwriting.{cleared_all}
 use Rattle.project.specs.Answer.{Askable}
 use Rattle.project.specs.Marks.{Kept, marks_in}
@@ -41,9 +41,7 @@ has_index (y ∷ ys) x e =
     ⊎_elim (λ w. (0, omega arith, eqb-true y x w)) (λ w. let (k, l, is) = has_index ys x w in (suc k, omega arith, is)) (or_cases (eqb y x) (has ys x) e)
 
 index_has : (xs : List ℕ) (k x : ℕ) → k < length xs → get_or xs k 0 ≡ x → has xs x ≡ true
-index_has [] k x l e = absurd (omega arith)
-index_has (y ∷ ys) zero x l e = or_left (eqb y x) (has ys x) (eq-eqb y x e)
-index_has (y ∷ ys) (suc k) x l e = or_right (eqb y x) (has ys x) (index_has ys k x (omega arith) e)
+index_has xs k x l e = true_has xs x (Memᴰ.cast (sym e) (in_at 0 xs k l))
 
 -- tests that agree on the numbers from k up give the same bytes
 same_bytes : (p q : ℕ → Bool) (n k : ℕ) → ((m : ℕ) → m < k + n → p m ≡ q m)
