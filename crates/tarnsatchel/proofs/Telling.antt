@@ -1,19 +1,12 @@
 -- What a function of the library answers and leaves, with its answer told, is what a call from C is told.
 -- First what is told of any reply, then each function in turn.
 use mathlib.Core.List.{List}
-use mathlib.Core.Option.{none-ne-some, some-injective, none, some}
+use Rattle.std.specs.Prelude.{None, Some}
 use mathlib.Core.Path.{◌∙◌, ◌≡◌, ap, refl, sym}
 use Prim.Native.Nat.{ℕ}
 use lib.ListN.{length}
-use Rattle.paper.specs.declared.Built.{Built}
-use Rattle.paper.specs.declared.Converted.{Converted}
-use Rattle.paper.specs.declared.Counted.{Counted}
-use Rattle.paper.specs.declared.Fixed.{Fixed}
 use Rattle.paper.specs.declared.Head.{Head}
-use Rattle.paper.specs.declared.Member.{Member}
-use Rattle.paper.specs.declared.Projected.{Projected}
 use Rattle.paper.specs.declared.Record.{Record}
-use Rattle.paper.specs.declared.Written.{Written}
 use Rattle.paper.specs.Answers.{says_built, says_converted, says_counted, says_fixed, says_member, says_projected, says_written, told}
 use Rattle.paper.specs.Refusals.{No, Reply, answer, build, fix, no, no_at, number_in, position_in, project, refused, row_by_number}
 use Rattle.paper.specs.Row.{Row}
