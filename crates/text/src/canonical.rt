@@ -81,7 +81,7 @@ impl Writing {
     }
 
     // A pad: the last node that waits has no others, or it has no children and is complete.
-    fn miss(&mut self)
+    fn read_pad(&mut self)
         requires { Fits (missing self.old.waiting) self.old.text }
         ensures { self.new ≡ after (missing self.old.waiting) self.old }
     {
@@ -101,7 +101,7 @@ impl Writing {
 
     // A branch: the last of the others of the last node that waits, or the last of its children, behind which its brackets are closed. The
     // new node waits then.
-    fn meet(&mut self, label: u8)
+    fn read_branch(&mut self, label: u8)
         requires room { length self.old.waiting < most_written }
         requires fits { Fits (met label self.old.waiting) self.old.text }
         ensures { self.new ≡ after (met label self.old.waiting) self.old }
@@ -131,9 +131,9 @@ pub(crate) fn write_text(tree: &[u8]) -> Stack<u8, LONGEST_TEXT>
     // Ends before the first record: a turn goes over one.
     while let [before @ .., kind, label] = rest {
         if *kind == LEAF {
-            writing.miss();
+            writing.read_pad();
         } else {
-            writing.meet(*label);
+            writing.read_branch(*label);
         }
         rest = before;
     }
