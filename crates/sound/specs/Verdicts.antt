@@ -1,20 +1,12 @@
 -- The verdict of a question, once its set has been weighed: its own tests, each with its refusal, what they come to, and what is to be cleared.
-use Rattle.std.specs.Prelude.{Bool, cond, List, [], ◌∷◌, ℕ, Result, Ok, Err, min, length, replicate}
+use Rattle.std.specs.Prelude.{cond, List, [], ◌∷◌, ℕ, Result, Ok, Err}
 use Rattle.paper.specs.declared.Refusal.{Refusal}
 use Rattle.paper.specs.Answers.{no_of}
-use Rattle.paper.specs.Refusals.{Reply, Test, answer, over, refused}
+use Rattle.paper.specs.Refusals.{Reply, answer, refused}
+pub use Rattle.sound.specs.Questions.{OwnTest, cleared, tests_of}
 pub use Rattle.sound.specs.declared.verdict.Ruling.{Ruling}
 use Rattle.sound.specs.declared.verdict.Ruling.TheVariants as RulingIs
 pub use Rattle.sound.specs.declared.verdict.Verdict.{Verdict}
-
--- a test, and the refusal where it fails
-abbrev pub OwnTest : Type 0
-OwnTest = Refusal × Bool
-
--- the paper's tests
-abbrev pub tests_of : List OwnTest → List Test
-tests_of [] = []
-tests_of (t ∷ ts) = (no_of t.0, t.1) ∷ tests_of ts
 
 -- the first that fails refuses
 abbrev pub ruling_of : List OwnTest → Ruling
@@ -37,7 +29,3 @@ verdict_after v more = record { ruling = ruling_after v.ruling more; clear = v.c
 abbrev pub reply_of : {A : Type 0} → Ruling → A → Reply A
 reply_of RulingIs.Answer a = answer a
 reply_of (RulingIs.Refused why) a = refused (no_of why)
-
--- the work with its first numbers 0, as far as it goes
-abbrev pub cleared : ℕ → List ℕ → List ℕ
-cleared n work = over (replicate (min n (length work)) 0) work

@@ -10,7 +10,6 @@ mod keys; // what the query's records say once, as a table of bits
 mod lengths; // the length of a body, by its kind
 mod lists; // the rules of each symbol in lists, and the accepting states
 mod query; // the records behind the head, and all of the query
-mod record; // a byte of the input, also behind its end
 mod tree; // the tree
 
 // Callers name these by the crate alone: in which file one stands is not their matter.
