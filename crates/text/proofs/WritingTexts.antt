@@ -31,7 +31,7 @@ length-missing : (ws : List Waiting) → length (missing ws).0 ≤ length ws
 length-missing [] = omega arith
 length-missing (Others l ∷ ws) = omega arith
 length-missing (Children l b ∷ ws) = omega (arith, length-completed ws)
-length-missing (Inside l ∷ ws) = omega (arith, length-completed ws)
+length-missing (Inside l ∷ ws) = omega arith
 
 length-met : (l : ℕ) (ws : List Waiting) → length (met l ws).0 ≡ suc (length ws)
 length-met l [] = refl
