@@ -8,6 +8,7 @@ use Prim.Native.Nat.{◌<◌, ℕ}
 use native.Mathlib.Omega.{arith}
 use borrow.Author.Tests.{lt-leb}
 use lib.ListN.{drop, length, replicate}
+use Rattle.std.specs.Prelude.{Result, Ok, Err}
 use Rattle.paper.specs.declared.Head.{Head}
 use Rattle.paper.specs.declared.Record.{Record}
 use Rattle.paper.specs.declared.Refusal.{Refusal}
@@ -17,8 +18,6 @@ use Rattle.paper.specs.Refusals.{Reply, answer, ask_tests, over, refused, unless
 use Rattle.laws.proofs.Replies.{refused_not_answer}
 use Rattle.sound.specs.Face.{Weighs}
 use Rattle.sound.specs.Verdicts.{OwnTest, Ruling, Verdict, cleared, reply_of, ruling_of, tests_of, verdict_of}
-use Rattle.sound.specs.Weights.{Weighed}
-use Rattle.sound.specs.declared.Weighed.TheVariants as WeighedIs
 use Rattle.sound.specs.declared.verdict.Ruling.TheVariants as RulingIs
 use Rattle.sound.proofs.Answered.{refused_reply, refused_work, sound_behind, sound_length, sound_reply, sound_room}
 use Rattle.sound.proofs.Overwriting.{cleared_all, cleared_same}
@@ -67,8 +66,8 @@ late_work (t ∷ ts) late a n work = go t.1 (late_work ts late.1 a n work)
     go false more = rw (lt-leb (number_of t.0) 5 late.0) refl
 
 -- ---- behind those of `weigh`
-module _ {h : Head} {table : List Record} {work work₁ : List ℕ} {w : Weighed} (W : Weighs h table work w work₁)
-    {A : Type 0} (ts : List OwnTest) (a : A) (own : Ruling) (judged : w ≡ WeighedIs.Sound → own ≡ ruling_of ts) where
+module _ {h : Head} {table : List Record} {work work₁ : List ℕ} {w : Result (Unit {0}) Refusal} (W : Weighs h table work w work₁)
+    {A : Type 0} (ts : List OwnTest) (a : A) (own : Ruling) (judged : w ≡ Ok tt → own ≡ ruling_of ts) where
   abbrev v : Verdict
   v = verdict_of w own h.used
 
@@ -76,35 +75,35 @@ module _ {h : Head} {table : List Record} {work work₁ : List ℕ} {w : Weighed
   reply = unless (ask_tests h table (length work) ++ tests_of ts) a
 
   -- a question that is answered is of a sound set, and all its tests hold
-  pub answered : v.ruling ≡ RulingIs.Answer → (w ≡ WeighedIs.Sound) × Holds ts
+  pub answered : v.ruling ≡ RulingIs.Answer → (w ≡ Ok tt) × Holds ts
   answered = go w refl
     where
-      go : (x : Weighed) → w ≡ x → (verdict_of x own h.used).ruling ≡ RulingIs.Answer → (w ≡ WeighedIs.Sound) × Holds ts
-      go WeighedIs.Sound said answers = (said, all_hold ts (sym (judged said) ∙ answers))
-      go (WeighedIs.Refused why) said answers = absurd (no_answer answers)
+      go : (x : Result (Unit {0}) Refusal) → w ≡ x → (verdict_of x own h.used).ruling ≡ RulingIs.Answer → (w ≡ Ok tt) × Holds ts
+      go (Ok _) said answers = (said, all_hold ts (sym (judged said) ∙ answers))
+      go (Err why) said answers = absurd (no_answer answers)
 
   -- the ruling is the reply, where the answer is right
   pub replies : (b : A) → (v.ruling ≡ RulingIs.Answer → b ≡ a) → reply_of v.ruling b ≡ reply
   replies b = go w refl
     where
-      go : (x : Weighed) → w ≡ x → ((verdict_of x own h.used).ruling ≡ RulingIs.Answer → b ≡ a)
+      go : (x : Result (Unit {0}) Refusal) → w ≡ x → ((verdict_of x own h.used).ruling ≡ RulingIs.Answer → b ≡ a)
           → reply_of (verdict_of x own h.used).ruling b ≡ reply
-      go WeighedIs.Sound said right =
+      go (Ok _) said right =
           ap (λ (ruling : Ruling). reply_of ruling b) (judged said)
           ∙ own_replies a b ts (λ answers. right (judged said ∙ answers))
           ∙ sym (sound_reply W said (tests_of ts) a)
-      go (WeighedIs.Refused why) said right = sym (refused_reply W said (tests_of ts) a)
+      go (Err why) said right = sym (refused_reply W said (tests_of ts) a)
 
   -- the work cleared is the work that the reply leaves, if the pass has left what is behind it as it was
   pub leaves : Late ts → (work₂ : List ℕ) → length work₂ ≡ length work₁ → drop v.clear work₂ ≡ drop v.clear work₁
       → cleared v.clear work₂ ≡ work_after reply (question_work h) work
   leaves late work₂ long = go w refl
     where
-      go : (x : Weighed) → w ≡ x → drop (verdict_of x own h.used).clear work₂ ≡ drop (verdict_of x own h.used).clear work₁
+      go : (x : Result (Unit {0}) Refusal) → w ≡ x → drop (verdict_of x own h.used).clear work₂ ≡ drop (verdict_of x own h.used).clear work₁
           → cleared (verdict_of x own h.used).clear work₂ ≡ work_after reply (question_work h) work
-      go WeighedIs.Sound said behind =
+      go (Ok _) said behind =
           cleared_all h.used work₂ (omega (arith, long, sound_length W said, sound_room W said))
           ∙ cleared_same h.used work work₂ (behind ∙ sound_behind W said)
           ∙ late_work ts late a h.used work
           ∙ ap (λ (q : Reply A). work_after q h.used work) (sym (sound_reply W said (tests_of ts) a))
-      go (WeighedIs.Refused why) said behind = cleared_all 0 work₂ (omega arith) ∙ behind ∙ refused_work W said (tests_of ts) a
+      go (Err why) said behind = cleared_all 0 work₂ (omega arith) ∙ behind ∙ refused_work W said (tests_of ts) a

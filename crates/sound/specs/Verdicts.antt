@@ -1,31 +1,21 @@
 -- The verdict of a question, once its set has been weighed: its own tests, each with its refusal, what they come to, and what is to be cleared.
-use Rattle.std.specs.Prelude.{Bool, cond, List, [], ◌∷◌, ℕ, min, length, replicate}
+use Rattle.std.specs.Prelude.{cond, List, [], ◌∷◌, ℕ, Result, Ok, Err}
 use Rattle.paper.specs.declared.Refusal.{Refusal}
 use Rattle.paper.specs.Answers.{no_of}
-use Rattle.paper.specs.Refusals.{Reply, Test, answer, over, refused}
-use Rattle.sound.specs.Weights.{Weighed}
-use Rattle.sound.specs.declared.Weighed.TheVariants as WeighedIs
+use Rattle.paper.specs.Refusals.{Reply, answer, refused}
+pub use Rattle.sound.specs.Questions.{OwnTest, cleared, tests_of}
 pub use Rattle.sound.specs.declared.verdict.Ruling.{Ruling}
 use Rattle.sound.specs.declared.verdict.Ruling.TheVariants as RulingIs
 pub use Rattle.sound.specs.declared.verdict.Verdict.{Verdict}
-
--- a test, and the refusal where it fails
-abbrev pub OwnTest : Type 0
-OwnTest = Refusal × Bool
-
--- the paper's tests
-abbrev pub tests_of : List OwnTest → List Test
-tests_of [] = []
-tests_of (t ∷ ts) = (no_of t.0, t.1) ∷ tests_of ts
 
 -- the first that fails refuses
 abbrev pub ruling_of : List OwnTest → Ruling
 ruling_of [] = RulingIs.Answer
 ruling_of (t ∷ ts) = cond t.1 (ruling_of ts) (RulingIs.Refused t.0)
 
-abbrev pub verdict_of : Weighed → Ruling → ℕ → Verdict
-verdict_of WeighedIs.Sound own used = record { ruling = own; clear = used }
-verdict_of (WeighedIs.Refused why) own used = record { ruling = RulingIs.Refused why; clear = 0 }
+abbrev pub verdict_of : Result (Unit {0}) Refusal → Ruling → ℕ → Verdict
+verdict_of (Ok _) own used = record { ruling = own; clear = used }
+verdict_of (Err why) own used = record { ruling = RulingIs.Refused why; clear = 0 }
 
 -- a test more, which counts where those before it hold
 abbrev pub ruling_after : Ruling → Ruling → Ruling
@@ -39,7 +29,3 @@ verdict_after v more = record { ruling = ruling_after v.ruling more; clear = v.c
 abbrev pub reply_of : {A : Type 0} → Ruling → A → Reply A
 reply_of RulingIs.Answer a = answer a
 reply_of (RulingIs.Refused why) a = refused (no_of why)
-
--- the work with its first numbers 0, as far as it goes
-abbrev pub cleared : ℕ → List ℕ → List ℕ
-cleared n work = over (replicate (min n (length work)) 0) work

@@ -5,7 +5,6 @@
 ghost use Rattle.std.specs.Prelude.{◌≡◌};
 ghost use Rattle.sound.specs.Verdicts.{verdict_after, verdict_of};
 
-use crate::Weighed;
 use paper::Refusal;
 
 // What the tests of a question come to: all hold, or the first that fails refuses.
@@ -25,15 +24,15 @@ pub struct Verdict {
 // By what `weigh` has found, and what the question's own tests come to, which count only where the set
 // is sound. `weigh` leaves the work of a set that it refuses as a refusal does, so nothing of it is to
 // be cleared; else the used records have each a number there.
-pub fn verdict_of(w: Weighed, own: Ruling, used: u16) -> Verdict
+pub fn verdict_of(w: Result<(), Refusal>, own: Ruling, used: u16) -> Verdict
     ensures { result ≡ verdict_of w own used }
 {
     match w {
-        Weighed::Refused(why) => Verdict {
+        Err(why) => Verdict {
             ruling: Ruling::Refused(why),
             clear: 0,
         },
-        Weighed::Sound => Verdict {
+        Ok(()) => Verdict {
             ruling: own,
             clear: used as usize,
         },
