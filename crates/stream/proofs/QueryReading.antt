@@ -153,9 +153,6 @@ module _ (input : List ℕ) (at : ℕ) where
     states : number head 1 ≡ facts.states
     states = ap (λ records. (query_of records).states) (sym (records_here input at inside))
 
-    records_inside : facts.rules ≤ length input
-    records_inside = omega (arith, two_numbers, whole_inside input at inside p.1.1.0)
-
     passed : query_reply input at ≡ later_reply input facts
     passed =
         with_head inside
@@ -175,9 +172,6 @@ module _ (input : List ℕ) (at : ℕ) where
   module _ (f : QueryFacts) (e : answer f ≡ head_reply input at) where
     read_head : Passes (tests_at at ((3, ltb at (length input)) ∷ head_tests head)) × (facts ≡ f)
     read_head = answered (tests_at at ((3, ltb at (length input)) ∷ head_tests head)) (sym e)
-
-    pub behind_head : f.rules ≤ length input
-    behind_head = subst (λ (g : QueryFacts). g.rules ≤ length input) read_head.1 (records_inside read_head.0)
 
     pub head_passed : later_reply input f ≡ query_reply input at
     head_passed = subst (λ g. later_reply input g ≡ query_reply input at) read_head.1 (sym (passed read_head.0))
