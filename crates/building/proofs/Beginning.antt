@@ -1,6 +1,5 @@
 -- The beginning of a build. First that a refusal of the tree, of the query or of the work is the build's, with a number up to 5; then
 -- that the building comes to the first node.
-use mathlib.Core.Bool.{false, true}
 use mathlib.Core.List.{List, [], ◌++◌, ◌∷◌, append-nil}
 use mathlib.Core.Path.{◌∙◌, ◌≡◌, ap, ap₂, refl, subst, subst₂, sym}
 use Prim.Native.Nat.{◌*◌, ◌+◌, ◌-◌, ◌<◌, ◌^◌, ◌≤◌, min, ℕ}
@@ -186,14 +185,12 @@ module _ (input : List ℕ) (tree : TreeFacts) (query : QueryFacts) (f : ReadFac
 
   module _ (t : State) (work : List ℕ) (entries : ℕ) (limit : t.limit ≡ min entries most_records) where
     -- a state with the numbers that were read comes to it
-    pub comes_first : t.going ≡ true → t.over ≡ false → t.from ≡ 0 → t.count ≡ 0 → t.nodes ≡ tree.nodes → t.rules ≡ query.rules
-        → t.arity ≡ query.arity → t.states ≡ query.states → t.asked ≡ work_for input → t.asked ≤ length work → t.node ≡ 0 → t.at ≡ 0
+    pub comes_first : t.from ≡ 0 → t.count ≡ 0 → t.nodes ≡ tree.nodes → t.rules ≡ query.rules
+        → t.shape.arity ≡ query.arity → t.shape.states ≡ query.states → t.asked ≡ work_for input → t.asked ≤ length work → t.node ≡ 0 → t.at ≡ 0
         → t.top ≡ 0 → Coming input t work []
-    comes_first going over from count nodes rules arity states asked room node at top =
+    comes_first from count nodes rules arity states asked room node at top =
         let (n, none, empty-stack) = first_node t.node t.at t.top node at top (tree_records (records_of input)) refl in
         record {
-          going = going;
-          over = over;
           constants = record {
             tree = f.tree_reply_lem;
             query = f.query_reply_lem;
@@ -207,7 +204,7 @@ module _ (input : List ℕ) (tree : TreeFacts) (query : QueryFacts) (f : ReadFac
           here = n;
           earlier = none;
           frames = subst (InWork t work) (sym empty-stack)
-              (record { frames = tt; low = λ i h. absurd (omega (arith, zero-mul (width t.arity t.states))); room = room });
+              (record { frames = tt; low = λ i h. absurd (omega (arith, zero-mul (width t.shape.arity t.shape.states))); room = room });
           used = omega arith;
         }
 

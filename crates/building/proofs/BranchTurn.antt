@@ -45,20 +45,20 @@ module _ (input : List ℕ) (t : State) (work : List ℕ) (made : List Record) (
 
   -- ---- the children's frames: the last one is the first below the top, the older one the second
   child_frame : (i frame : ℕ) → i < length s.node.stack → frame ≡ length s.node.stack - suc i
-      → FrameIs t.arity t.states work (frame * width t.arity t.states) (get_or s.node.stack i no_slots)
+      → FrameIs t.shape.arity t.shape.states work (frame * width t.shape.arity t.shape.states) (get_or s.node.stack i no_slots)
   child_frame i frame l w =
-      subst (λ x. FrameIs t.arity t.states work (x * width t.arity t.states) (get_or s.node.stack i no_slots)) (sym w)
-      (frame_down t.arity t.states work s.node.stack i no_slots l s.frames.frames.1)
+      subst (λ x. FrameIs t.shape.arity t.shape.states work (x * width t.shape.arity t.shape.states) (get_or s.node.stack i no_slots)) (sym w)
+      (frame_down t.shape.arity t.shape.states work s.node.stack i no_slots l s.frames.frames.1)
 
-  lefts_frame : FrameIs t.arity t.states work ((t.top - 2) * width t.arity t.states) (get_or s.node.stack 1 no_slots)
+  lefts_frame : FrameIs t.shape.arity t.shape.states work ((t.top - 2) * width t.shape.arity t.shape.states) (get_or s.node.stack 1 no_slots)
   lefts_frame = child_frame 1 (t.top - 2) (omega (arith, two_below, s.node.high)) (omega (arith, s.node.high))
 
-  rights_frame : FrameIs t.arity t.states work ((t.top - 1) * width t.arity t.states) (get_or s.node.stack 0 no_slots)
+  rights_frame : FrameIs t.shape.arity t.shape.states work ((t.top - 1) * width t.shape.arity t.shape.states) (get_or s.node.stack 0 no_slots)
   rights_frame = child_frame 0 (t.top - 1) (omega (arith, two_below, s.node.high)) (omega (arith, s.node.high))
 
   room_here : (batch : List ℕ) → batch_numbers ≤ length batch → t.from ≤ t.limit → Room (branch_of input t t.rule) t.count batch work
   room_here batch enough few = record {
-    flags = record { arity = t.arity; small = ready.arity; powers = refl };
+    flags = record { arity = t.shape.arity; small = t.shape.few_places; powers = refl };
     own_flag = branch_bytes.flag;
     few = omega (arith, s.constants.limit);
     few_nodes = omega (arith, ready.nodes);
@@ -78,17 +78,15 @@ module _ (input : List ℕ) (t : State) (work : List ℕ) (made : List Record) (
   branch_room {batch = batch} same enough few = subst (λ x. Room x t.count batch work) (sym same) (room_here batch enough few)
 
   -- what the code asks of the numbers, of a state that has the same
-  pub branch_ready : (t' : State) → t'.arity ≡ t.arity → t'.states ≡ t.states → t'.top ≡ t.top → BranchReady input t' t.rule
+  pub branch_ready : (t' : State) → t'.shape.arity ≡ t.shape.arity → t'.shape.states ≡ t.shape.states → t'.top ≡ t.top → BranchReady input t' t.rule
   branch_ready t' arity states top = record {
     inside = branch_bytes.inside;
-    arity = omega (arith, ready.arity);
-    states = omega (arith, ready.states);
     frames = omega (arith, ready.frames);
     below = omega (arith, two_below);
-    flag = omega (arith, branch_bytes.flag, flags_at_most t.arity ready.arity);
-    left = omega (arith, branch_bytes.left, ready.states);
-    right = omega (arith, branch_bytes.right, ready.states);
-    state = omega (arith, branch_bytes.state, ready.states);
+    flag = omega (arith, branch_bytes.flag, flags_at_most t.shape.arity t.shape.few_places);
+    left = omega (arith, branch_bytes.left, t.shape.few_states);
+    right = omega (arith, branch_bytes.right, t.shape.few_states);
+    state = omega (arith, branch_bytes.state, t.shape.few_states);
   }
 
 -- the rule is done

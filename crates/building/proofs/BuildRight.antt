@@ -4,7 +4,7 @@ use mathlib.Core.List.{List}
 use mathlib.Core.Path.{◌≡◌, refl, sym, ap, ◌∙◌}
 use Prim.Native.Nat.{ℕ}
 use lib.ListN.{length}
-use Rattle.paper.specs.declared.Built.TheVariants as BuiltIs
+use Rattle.std.specs.Prelude.{Ok}
 use Rattle.paper.specs.declared.Head.{Head}
 use Rattle.paper.specs.Answers.{told}
 use Rattle.paper.specs.Refusals.{Reply, refused, answer, build}
@@ -15,7 +15,7 @@ use Rattle.building.specs.Batch.{Record}
 use Rattle.building.specs.Face.{Builds}
 
 module _ (input work : List ℕ) (table : List Record) (h : Head) (work' : List ℕ) (table' : List Record)
-    (done : Builds input work table (BuiltIs.Set h) work' table') where
+    (done : Builds input work table (Ok h) work' table') where
   -- the head that is answered, with the table as it is left, is a built set
   pub is_built : BuiltSet input h table'
   is_built = go (build input (length work) (length table)) refl done.answer

@@ -73,15 +73,15 @@ module _ (input : List ℕ) (t : State) (work : List ℕ) (made : List Record) (
       }
 
   -- a branch: there is room to copy its frame
-  pub join_room : (get_or input t.at 0 ≡ leaf_kind → ⊥) → {from to n : ℕ} → from ≡ t.top * width t.arity t.states
-      → to ≡ (t.top - 2) * width t.arity t.states → n ≡ width t.arity t.states → (to + n ≤ from) × (from + n ≤ length work)
+  pub join_room : (get_or input t.at 0 ≡ leaf_kind → ⊥) → {from to n : ℕ} → from ≡ t.top * width t.shape.arity t.shape.states
+      → to ≡ (t.top - 2) * width t.shape.arity t.shape.states → n ≡ width t.shape.arity t.shape.states → (to + n ≤ from) × (from + n ≤ length work)
   join_room branch e₁ e₂ e₃ =
       let two = two_below branch in
-      let below = parts_apart (width t.arity t.states) (t.top - 2) t.top (omega (arith, two)) in
+      let below = parts_apart (width t.shape.arity t.shape.states) (t.top - 2) t.top (omega (arith, two)) in
       (omega (arith, below), omega (arith, frame_room input t s.constants s.node, s.frames.room))
 
-  pub branch_joined : (get_or input t.at 0 ≡ leaf_kind → ⊥) → {from to n : ℕ} {work' : List ℕ} → from ≡ t.top * width t.arity t.states
-      → to ≡ (t.top - 2) * width t.arity t.states → n ≡ width t.arity t.states → work' ≡ paste work to (drop from work) n
+  pub branch_joined : (get_or input t.at 0 ≡ leaf_kind → ⊥) → {from to n : ℕ} {work' : List ℕ} → from ≡ t.top * width t.shape.arity t.shape.states
+      → to ≡ (t.top - 2) * width t.shape.arity t.shape.states → n ≡ width t.shape.arity t.shape.states → work' ≡ paste work to (drop from work) n
       → Joined input t work made s (t.top - 1) work'
   branch_joined branch {from} {to} {n} {work'} e₁ e₂ e₃ e = record {
     high = omega (arith, two, s.node.high, ap length left, length-drop 2 s.node.stack);
@@ -94,7 +94,7 @@ module _ (input : List ℕ) (t : State) (work : List ℕ) (made : List Record) (
   }
     where
       size : ℕ
-      size = width t.arity t.states
+      size = width t.shape.arity t.shape.states
 
       base : ℕ
       base = t.top - 2
@@ -133,8 +133,8 @@ module _ (input : List ℕ) (t : State) (work : List ℕ) (made : List Record) (
       long : length joined ≡ length work
       long = length-paste work (base * size) (drop (length s.node.stack * size) work) size within enough
 
-      down : FramesAre t.arity t.states joined (s.slots ∷ drop 2 s.node.stack)
+      down : FramesAre t.shape.arity t.shape.states joined (s.slots ∷ drop 2 s.node.stack)
           × ((i : ℕ) → i < length (s.slots ∷ drop 2 s.node.stack) * size → slot_at joined i ≤ t.from + t.count + 1)
       down =
-          copied_down t.arity t.states (t.from + t.count + 1) work s.slots s.node.stack base (omega (arith, two, s.node.high))
+          copied_down t.shape.arity t.shape.states (t.from + t.count + 1) work s.slots s.node.stack base (omega (arith, two, s.node.high))
           (omega (arith, top, room, s.frames.room)) s.frames.low s.frames.frames

@@ -56,11 +56,11 @@ module _ (input : List ℕ) (t : State) (work : List ℕ) (made : List Record) (
       record {
         node = ready;
         rule = leaf_bytes.inside;
-        flag = omega (arith, leaf_bytes.flag, flags_at_most t.arity ready.arity);
-        state = omega (arith, leaf_bytes.state, ready.states);
+        flag = omega (arith, leaf_bytes.flag, flags_at_most t.shape.arity t.shape.few_places);
+        state = omega (arith, leaf_bytes.state, t.shape.few_states);
         slot = omega (
           arith,
-          slot_below t.arity t.states (get_or input (t.rule + 3) 0) (get_or input (t.rule + 2) 0) leaf_bytes.state leaf_bytes.flag,
+          slot_below t.shape.arity t.shape.states (get_or input (t.rule + 3) 0) (get_or input (t.rule + 2) 0) leaf_bytes.state leaf_bytes.flag,
           ready.frame,
         );
       }
@@ -114,8 +114,8 @@ module _ (input : List ℕ) (t : State) (work batch : List ℕ) (base : List Rec
     leaf_stepped : can_stand label flag ≡ true → Leaves t.node flag (leaf_shelf input t) t.from t.count batch work count batch' work'
         → Onward input t work base count next work' batch'
     leaf_stepped stands e =
-        let one-shelf = slot_shelf e.slot (2 ^ t.arity) bytes.flag (low_shelf input t work made s t.top state (omega arith) bytes.state) in
-        let shelf = shelf_put e.slot (2 ^ t.arity) state s.slots (own_shelf input t work made s state bytes.state) in
+        let one-shelf = slot_shelf e.slot (2 ^ t.shape.arity) bytes.flag (low_shelf input t work made s t.top state (omega arith) bytes.state) in
+        let shelf = shelf_put e.slot (2 ^ t.shape.arity) state s.slots (own_shelf input t work made s state bytes.state) in
         let used : length (base ++ records_in count batch') ≡ t.from + count = omega (arith, more_records base count batch') in
         let there = onward (e.leaves base s.slots label state start stands) in
         record {
@@ -136,9 +136,7 @@ module _ (input : List ℕ) (t : State) (work batch : List ℕ) (base : List Rec
   pub leaf_passed : {c : Bool} → c ≡ can_stand (get_or input (t.at + 1) 0) flag → c ≡ false → Onward input t work base t.count next work batch
   leaf_passed asked stands_not = record {
     standing = record {
-      going = s.going;
-      over = s.over;
-      constants = constants_stay input t (more t t.count next) refl refl refl refl refl refl s.constants;
+      constants = constants_stay input t (more t t.count next) refl refl refl refl refl s.constants;
       node = s.node;
       slots = s.slots;
       rule = onward (rw (eq-eqb label label refl, can_stand_here asked false stands_not));

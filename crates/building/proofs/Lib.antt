@@ -30,12 +30,10 @@ pub mod Joining
 pub mod NextNode
 pub mod UnitedRoots
 pub mod Stopping
-pub mod TurnLoop
 pub mod Beginning
 pub mod Finishing
 pub mod Storing
 pub mod DriveLoop
 pub mod Facing
-pub mod StateShape
 pub mod BuildRight
 pub mod OneAnswer

@@ -1,25 +1,24 @@
 -- The start of a node: its frame is cleared and its first rule is looked for. Then the way from a node to the next.
-use mathlib.Core.Bool.{true≢false}
 use mathlib.Core.List.{List, [], ◌++◌, ◌∷◌, append_assoc}
 use mathlib.Core.Path.{◌∙◌, ◌≡◌, ap, refl, subst, subst₂, sym}
-use Prim.Native.Nat.{◌*◌, ◌+◌, ◌-◌, ◌<◌, ◌%◌, ◌≤◌, suc, zero, ℕ}
+use Prim.Native.Nat.{◌*◌, ◌+◌, ◌<◌, ◌%◌, ◌≤◌, ℕ}
 use native.Mathlib.Nat.{suc-mul}
 use native.Mathlib.Omega.{arith}
-use lib.ListN.{drop, get_or, get_or-replicate, length, length-append, length-drop, length-replicate, replicate}
+use lib.ListN.{get_or, get_or-replicate, length, length-append, length-replicate, replicate}
 use lib.Seq.{length-paste, paste}
 use Rattle.paper.specs.Refusals.{nodes_in}
-use Rattle.paper.specs.Stream.{StreamRecord, body_length, number, records_of, records_within}
+use Rattle.paper.specs.Stream.{StreamRecord, body_length, number}
 use Rattle.laws.specs.StreamCauses.{RuleKind}
 use Rattle.stream.specs.Positions.{NextRule}
 use Rattle.stream.specs.RuleLists.{TellsFirst}
-use Rattle.building.specs.Batch.{Record, records_in}
-use Rattle.building.specs.Bounds.{batch_records, slot_sets}
+use Rattle.building.specs.Batch.{Record}
+use Rattle.building.specs.Bounds.{slot_sets}
 use Rattle.building.specs.Frames.{width}
 use Rattle.building.specs.Kinds.{rule_above}
 use Rattle.building.specs.Listed.{Listed}
 use Rattle.building.specs.Slots.{slot_at}
-use Rattle.building.specs.Coming.{Come, Coming, Joined}
-use Rattle.building.specs.Standing.{AtRule, Standing, State, Stepped, no_slots, stack_left}
+use Rattle.building.specs.Coming.{Come, Coming, GoneOn, Joined}
+use Rattle.building.specs.Standing.{AtRule, Standing, State, no_slots, stack_left}
 use Rattle.building.specs.States.{moved, started}
 use Rattle.building.proofs.Frames.{frames_cleared, paste_after}
 use Rattle.building.proofs.Limits.{constants_stay}
@@ -28,12 +27,6 @@ use Rattle.building.proofs.NodeRules.{first_rule}
 use Rattle.building.proofs.Pasting.{paste_low, same_behind}
 use Rattle.building.proofs.Present.{NodeReady, body_here, frame_room, kind_here, label_here, node_of, node_ready, tree_kind_here}
 
--- there are no more records than bytes
-few_records : (n : ℕ) (bytes : List ℕ) → length (records_within n bytes) ≤ n
-few_records zero bytes = omega arith
-few_records (suc n) [] = omega arith
-few_records (suc n) (k ∷ bytes) = omega (arith, few_records n (drop (body_length k) bytes))
-
 -- ---- the start of a node
 module _ (input : List ℕ) (t : State) (work : List ℕ) (made : List Record) (s : Coming input t work made) where
   pub coming_ready : NodeReady input t work
@@ -41,16 +34,16 @@ module _ (input : List ℕ) (t : State) (work : List ℕ) (made : List Record) (
 
   module _ (rule : ℕ) (search : NextRule input t.rules (s.here.here.kind + rule_above) (number s.here.here 0) rule) where
     abbrev size : ℕ
-    size = width t.arity t.states
+    size = width t.shape.arity t.shape.states
 
     abbrev base : ℕ
-    base = length s.here.stack * width t.arity t.states
+    base = length s.here.stack * width t.shape.arity t.shape.states
 
     abbrev cleared : List ℕ
     cleared = paste work base (replicate size 0) size
 
     same_base : t.top * size ≡ base
-    same_base = ap (λ x. x * width t.arity t.states) s.here.high
+    same_base = ap (λ x. x * width t.shape.arity t.shape.states) s.here.high
 
     asked : base + size ≤ t.asked
     asked = omega (arith, same_base, frame_room input t s.constants s.here)
@@ -64,7 +57,7 @@ module _ (input : List ℕ) (t : State) (work : List ℕ) (made : List Record) (
     long : length cleared ≡ length work
     long = length-paste work base (replicate size 0) size fits enough
 
-    low : (i : ℕ) → i < length (no_slots ∷ s.here.stack) * width t.arity t.states → slot_at cleared i ≤ t.from + t.count + 1
+    low : (i : ℕ) → i < length (no_slots ∷ s.here.stack) * width t.shape.arity t.shape.states → slot_at cleared i ≤ t.from + t.count + 1
     low i h =
         paste_low work (replicate size 0) base size (t.from + t.count + 1) fits enough s.frames.low
         (λ j l. omega (arith, ap (λ x. x % slot_sets) (get_or-replicate {A = ℕ} size j 0 0 l))) i (omega (arith, suc-mul (length s.here.stack) size))
@@ -72,16 +65,14 @@ module _ (input : List ℕ) (t : State) (work : List ℕ) (made : List Record) (
     come : Come input t work made (started t rule) cleared
     come = record {
       standing = record {
-        going = s.going;
-        over = s.over;
-        constants = constants_stay input t (started t rule) refl refl refl refl refl refl s.constants;
+        constants = constants_stay input t (started t rule) refl refl refl refl refl s.constants;
         node = s.here;
         slots = no_slots;
         rule = subst (λ earlier. AtRule input t.node rule s.here.here s.here.earlier s.here.stack (earlier, no_slots)) s.earlier
             (first_rule input t s.constants t.node s.here.here s.here.earlier s.here.stack
             (tree_kind_here input t s.constants s.here) rule search);
         frames = record {
-          frames = frames_cleared t.arity t.states work s.here.stack fits s.frames.frames;
+          frames = frames_cleared t.shape.arity t.shape.states work s.here.stack fits s.frames.frames;
           low = low;
           room = omega (arith, long, s.frames.room);
         };
@@ -96,8 +87,8 @@ module _ (input : List ℕ) (t : State) (work : List ℕ) (made : List Record) (
     }
 
   -- of the numbers that the code has
-  pub has_come : {rule kind label from n : ℕ} {work' lists : List ℕ} {r : State} → Listed input lists → from ≡ t.top * width t.arity t.states
-      → n ≡ width t.arity t.states → work' ≡ paste work from (replicate n 0) n → kind ≡ get_or input t.at 0 + rule_above
+  pub has_come : {rule kind label from n : ℕ} {work' lists : List ℕ} {r : State} → Listed input lists → from ≡ t.top * width t.shape.arity t.shape.states
+      → n ≡ width t.shape.arity t.shape.states → work' ≡ paste work from (replicate n 0) n → kind ≡ get_or input t.at 0 + rule_above
       → label ≡ get_or input (t.at + 1) 0 → TellsFirst lists kind label rule → r ≡ started t rule → Come input t work made r work'
   has_come {rule} {kind} {label} {from} {n} {work'} {r = r} listed e₁ e₂ e k l told result =
       subst₂ (λ x w. Come input t work made x w) (sym result) (sym pasted) (come rule found)
@@ -119,7 +110,7 @@ module _ (input : List ℕ) (t : State) (work : List ℕ) (made : List Record) (
           (l ∙ label_here input t s.constants s.here) search
 
       size : ℕ
-      size = width t.arity t.states
+      size = width t.shape.arity t.shape.states
 
       pasted : work' ≡ paste work (length s.here.stack * size) (replicate size 0) size
       pasted =
@@ -136,9 +127,7 @@ module _ (input : List ℕ) (t : State) (work : List ℕ) (made : List Record) (
   coming_next [] e j =
       absurd (omega (arith, node_of input t s.constants s.node, ap length e, s.constants.nodes))
   coming_next (next ∷ behind) e {top} {work₁} j = record {
-    going = s.going;
-    over = s.over;
-    constants = constants_stay input t (moved t (t.node + 1) (t.at + 2) top) refl refl refl refl refl refl s.constants;
+    constants = constants_stay input t (moved t (t.node + 1) (t.at + 2) top) refl refl refl refl refl s.constants;
     here = record {
       before = s.node.before ++ (s.node.here ∷ []);
       here = next;
@@ -163,27 +152,15 @@ module _ (input : List ℕ) (t : State) (work : List ℕ) (made : List Record) (
       let two : t.at + 2 ≡ next = omega (arith, body_here input t s.constants s.node) in
       subst (λ at. Coming input (moved t (t.node + 1) at top) work₁ made) two (coming_next s.node.behind refl j)
 
-  -- and so the turn is done
-  pub node_stepped : {next top : ℕ} {work₁ work₂ : List ℕ} {r : State} → Joined input t work made s top work₁
-      → Come input (moved t (t.node + 1) next top) work₁ made r work₂ → (batch : List ℕ) (base : List Record) → made ≡ base ++ records_in t.count batch
-      → length base ≡ t.from → t.from + t.count ≤ t.limit → t.count ≤ batch_records → Stepped input t work base r work₂ batch
-  node_stepped {work₂ = work₂} {r} j c batch base all start fits count = record {
+  -- and so the building has gone on
+  pub gone_on : {next top : ℕ} {work₁ work₂ : List ℕ} {r : State} → Joined input t work made s top work₁
+      → Come input (moved t (t.node + 1) next top) work₁ made r work₂ → GoneOn input t work made r work₂
+  gone_on j c = record {
+    standing = c.standing;
     limit = c.limit;
     asked = c.asked;
+    node = c.number;
+    from = c.from;
+    count = c.count;
     rest = c.rest ∙ j.rest;
-    from = c.from ∙ sym start;
-    count = omega (arith, c.count);
-    fits = omega (arith, c.from, c.count, c.limit);
-    goes = λ e. subst (Standing input r work₂) (all ∙ ap (λ n. base ++ records_in n batch) (sym c.count)) c.standing;
-    stops = λ e. absurd (true≢false (sym c.standing.going ∙ e));
-    falls = rw (s.going, c.standing.going) (omega (arith, ap (λ n. n * suc (length input)) nodes, suc-mul left (suc (length input)), few));
   }
-    where
-      left : ℕ
-      left = nodes_in input - r.node
-
-      nodes : nodes_in input - t.node ≡ suc (nodes_in input - r.node)
-      nodes = omega (arith, node_of input r c.standing.constants c.standing.node, c.number)
-
-      few : length (records_of (drop r.rule input)) ≤ length input
-      few = omega (arith, few_records (length (drop r.rule input)) (drop r.rule input), length-drop r.rule input)

@@ -46,8 +46,8 @@ pub record LeafRuleAt (input : List ℕ) (t : State) (label : ℕ) : Type 0 wher
   pub flag_byte : number (record_at input t.rule) 1 ≡ get_or input (t.rule + 2) 0
   pub state_byte : number (record_at input t.rule) 2 ≡ get_or input (t.rule + 3) 0
   pub rule : LeafRuleFor label (record_at input t.rule)
-  pub flag : get_or input (t.rule + 2) 0 < 2 ^ t.arity
-  pub state : get_or input (t.rule + 3) 0 < t.states
+  pub flag : get_or input (t.rule + 2) 0 < 2 ^ t.shape.arity
+  pub state : get_or input (t.rule + 3) 0 < t.shape.states
 
 -- a branch's
 pub record BranchRuleAt (input : List ℕ) (t : State) (label : ℕ) : Type 0 where
@@ -58,10 +58,10 @@ pub record BranchRuleAt (input : List ℕ) (t : State) (label : ℕ) : Type 0 wh
   pub right_byte : number (record_at input t.rule) 3 ≡ get_or input (t.rule + 4) 0
   pub state_byte : number (record_at input t.rule) 4 ≡ get_or input (t.rule + 5) 0
   pub rule : BranchRuleFor label (record_at input t.rule)
-  pub flag : get_or input (t.rule + 2) 0 < 2 ^ t.arity
-  pub left : get_or input (t.rule + 3) 0 < t.states
-  pub right : get_or input (t.rule + 4) 0 < t.states
-  pub state : get_or input (t.rule + 5) 0 < t.states
+  pub flag : get_or input (t.rule + 2) 0 < 2 ^ t.shape.arity
+  pub left : get_or input (t.rule + 3) 0 < t.shape.states
+  pub right : get_or input (t.rule + 4) 0 < t.shape.states
+  pub state : get_or input (t.rule + 5) 0 < t.shape.states
 
 -- ---- rules at a node
 module _ (Q : Query) (r : StreamRecord) (n : ℕ) (stack : List (Slots Set)) where
@@ -143,10 +143,10 @@ module _ (input : List ℕ) (t : State) (k : Constants input t) (here : StreamRe
   passes_here : Passes (query_part (2 * nodes_in input) (head_record input ∷ (a.passed ++ (record_at input t.rule ∷ records_of (drop (after input t.rule) input)))))
   passes_here = subst (λ rs. Passes (query_part (2 * nodes_in input) (head_record input ∷ rs))) later_here (query_passes input k.query)
 
-  arity_here : 2 ^ number (head_record input) 0 ≡ 2 ^ t.arity
+  arity_here : 2 ^ number (head_record input) 0 ≡ 2 ^ t.shape.arity
   arity_here = ap (λ x. 2 ^ x) (sym (k.arity ∙ arity_is input k.query))
 
-  states_here : number (head_record input) 1 ≡ t.states
+  states_here : number (head_record input) 1 ≡ t.shape.states
   states_here = sym (k.states ∙ states_are input k.query)
 
   -- a leaf's rule

@@ -1,45 +1,34 @@
--- The two loops that write a part of the work, turn by turn: a part set to 0, and a part copied to a place before it. Then sets up to a
--- bound, and two works that agree from a place on.
+-- A part of the work that is set to 0. Then sets up to a bound where a part is pasted over, and two works that agree from a place on.
 use mathlib.Core.Bool.{Bool, false, true}
-use mathlib.Core.List.{List}
-use mathlib.Core.Path.{◌∙◌, ◌≡◌, ap, ap₂, refl, sym}
+use mathlib.Core.List.{List, ◌++◌}
+use mathlib.Core.Path.{◌∙◌, ◌≡◌, ap, refl, sym}
 use Prim.Native.Nat.{◌+◌, ◌-◌, ◌<◌, ◌%◌, ◌≤◌, ℕ}
-use native.Mathlib.Numerals.{add-one}
 use native.Mathlib.Omega.{arith}
 use borrow.Author.Tests.{ltb-false, ltb-true}
 use lib.Dec.{ltb}
-use lib.ListN.{drop, get_or, get_or-replicate, length, length-drop, length-replicate, replicate, set}
-use lib.Seq.{ext_get_or, get_or-drop, length-paste, paste, paste-suc}
+use lib.ListN.{drop, get_or, length, length-drop, length-replicate, length-take, replicate, take}
+use lib.Seq.{ext_get_or, get_or-drop, paste}
+use borrow.Rule.Slice.PartMut.{put_mid}
+use Rattle.std.proofs.lemmas.Slice.{put_mid-paste}
 use Rattle.building.specs.Bounds.{slot_sets}
 use Rattle.building.specs.Slots.{slot_at}
-use Rattle.building.proofs.Frames.{paste_after, paste_before, paste_within}
+use Rattle.building.proofs.Frames.{paste_before, paste_within}
 
-module _ (work : List ℕ) (from n i : ℕ) (fits : from + n ≤ length work) (now : List ℕ) (e : now ≡ paste work from (replicate n 0) i) where
-  pub cleared_length : i ≤ n → length now ≡ length work
-  cleared_length h =
-      ap length e ∙ length-paste work from (replicate n 0) i (omega arith) (omega (arith, length-replicate {A = ℕ} n 0))
+-- a part of the work filled with 0, as the library's `fill` says it of the part
+pub filled : (work part : List ℕ) (from n : ℕ) → from + n ≤ length work
+    → part ≡ replicate (length (take (from + n - from) (drop from work))) 0
+    → put_mid from (from + n - from) work part ≡ paste work from (replicate n 0) n
+filled work part from n fits e =
+    put_mid-paste from (from + n - from) work part (replicate n 0) n (e ∙ ap (λ m. replicate m 0) long) (omega arith) (sym (length-replicate n 0))
+  where
+    long : length (take (from + n - from) (drop from work)) ≡ n
+    long = length-take (from + n - from) (drop from work) ∙ omega (arith, length-drop from work)
 
-  -- one more number set to 0
-  pub cleared_more : i < n → set now (from + i) 0 ≡ paste work from (replicate n 0) (i + 1)
-  cleared_more h =
-      ap₂ (λ (w : List ℕ) (x : ℕ). set w (from + i) x) e (sym (get_or-replicate n i 0 0 h))
-      ∙ paste-suc work from (replicate n 0) i 0 (omega arith) (omega (arith, length-replicate {A = ℕ} n 0))
-      ∙ ap (paste work from (replicate n 0)) (sym (add-one i))
-
-module _ (work : List ℕ) (from to n i : ℕ) (apart : to + n ≤ from) (fits : from + n ≤ length work) (now : List ℕ)
-    (e : now ≡ paste work to (drop from work) i) where
-  pub copied_length : i ≤ n → length now ≡ length work
-  copied_length h = ap length e ∙ length-paste work to (drop from work) i (omega arith) (omega (arith, length-drop from work))
-
-  -- one more number copied: it stands behind the part that is written
-  pub copied_more : i < n → set now (to + i) (get_or now (from + i) 0) ≡ paste work to (drop from work) (i + 1)
-  copied_more h =
-      ap₂ (λ (w : List ℕ) (x : ℕ). set w (to + i) x) e
-      (ap (λ (w : List ℕ). get_or w (from + i) 0) e
-      ∙ paste_after work (drop from work) to i (omega arith) (omega (arith, length-drop from work)) (from + i) (omega arith)
-      ∙ sym (get_or-drop from work i 0))
-      ∙ paste-suc work to (drop from work) i 0 (omega arith) (omega (arith, length-drop from work))
-      ∙ ap (paste work to (drop from work)) (sym (add-one i))
+-- and its first part
+pub filled_first : (work part : List ℕ) (n : ℕ) → n ≤ length work → part ≡ replicate (length (take n work)) 0
+    → part ++ drop n work ≡ replicate n 0 ++ drop n work
+filled_first work part n fits e =
+    ap (λ zeros. zeros ++ drop n work) (e ∙ ap (λ m. replicate m 0) (length-take n work ∙ omega arith))
 
 -- ---- sets up to a bound
 -- those before the part that is pasted and those of the part

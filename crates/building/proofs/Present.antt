@@ -19,7 +19,7 @@ use Rattle.laws.specs.StreamCauses.{RuleKind, TreeKind}
 use Rattle.stream.specs.Positions.{record_at}
 use Rattle.stream.proofs.Positions.{number_byte, whole_inside}
 use Rattle.stream.proofs.TreeSteps.{grow_few, unjoined_nodes}
-use Rattle.building.specs.Bounds.{most_nodes, most_places, most_states}
+use Rattle.building.specs.Bounds.{most_nodes}
 use Rattle.building.specs.Frames.{width}
 use Rattle.building.specs.Kinds.{leaf_kind, rule_above}
 use Rattle.building.specs.Batch.{Record}
@@ -27,7 +27,7 @@ use Rattle.building.specs.Standing.{AtNode, Constants, Standing, State}
 use Rattle.building.proofs.Frames.{top_fits}
 use Rattle.building.proofs.NodeOrder.{stack_high, tests_at_lem, two_unjoined}
 use Rattle.building.proofs.Places.{TreePlace, tree_place}
-use Rattle.building.proofs.ReadInput.{few_states, small_arity, tree_passes}
+use Rattle.building.proofs.ReadInput.{tree_passes}
 
 -- ---- how many subtrees are unjoined
 most_from_lem : (records : List StreamRecord) (s : List Tree × ℕ) → most_from s records ≤ length s.0 + length records
@@ -94,7 +94,7 @@ module _ (input : List ℕ) (t : State) (k : Constants input t) (n : AtNode inpu
   pub few_frames : t.top ≤ t.node
   few_frames = omega (arith, high, n.number, unjoined_nodes n.before)
 
-  pub frame_room : t.top * width t.arity t.states + width t.arity t.states ≤ t.asked
+  pub frame_room : t.top * width t.shape.arity t.shape.states + width t.shape.arity t.shape.states ≤ t.asked
   frame_room =
       let work : List StreamRecord → ℕ = λ rs. build_work (most_unjoined rs) (query_in input) in
       subst₂ (λ (a s : ℕ). t.top * width a s + width a s ≤ t.asked) (sym k.arity) (sym k.states)
@@ -104,12 +104,6 @@ module _ (input : List ℕ) (t : State) (k : Constants input t) (n : AtNode inpu
   pub two_frames : (n.here.kind ≡ leaf_kind → ⊥) → 2 ≤ t.top
   two_frames e = omega (arith, high, two_unjoined n.before n.here n.behind tests e)
 
-  pub small_arity_here : t.arity ≤ most_places
-  small_arity_here = omega (arith, k.arity, (small_arity input k.query).1)
-
-  pub few_states_here : t.states ≤ most_states
-  few_states_here = omega (arith, k.states, (few_states input k.query).1)
-
 -- ---- what the code asks
 pub record NodeReady (input : List ℕ) (t : State) (work : List ℕ) : Type 0 where
   pub bytes : t.at + 2 ≤ length input
@@ -117,11 +111,9 @@ pub record NodeReady (input : List ℕ) (t : State) (work : List ℕ) : Type 0 w
   pub rules : RuleKind (get_or input t.at 0 + rule_above)
   pub label : get_or input (t.at + 1) 0 ≤ 63
   pub body : body_length (get_or input t.at 0) ≡ 1
-  pub arity : t.arity ≤ most_places
-  pub states : t.states ≤ most_states
   pub frames : t.top < most_nodes
   pub nodes : t.node < most_nodes
-  pub frame : t.top * width t.arity t.states + width t.arity t.states ≤ length work
+  pub frame : t.top * width t.shape.arity t.shape.states + width t.shape.arity t.shape.states ≤ length work
 
 pub node_ready : (input : List ℕ) (t : State) (work : List ℕ) → Constants input t → AtNode input t.node t.at t.top
     → t.asked ≤ length work → NodeReady input t work
@@ -132,8 +124,6 @@ node_ready input t work k n room = record {
       ⊎_elim (λ e. inl (omega (arith, kind_here input t k n))) (λ e. inr (omega (arith, kind_here input t k n))) (tree_kind_here input t k n);
   label = low_label input t k n;
   body = body_here input t k n;
-  arity = small_arity_here input t k n;
-  states = few_states_here input t k n;
   frames = omega (arith, few_frames input t k n, few_nodes input t k n);
   nodes = few_nodes input t k n;
   frame = omega (arith, frame_room input t k n);

@@ -1,16 +1,18 @@
 -- The loop over the rules of a node, a leaf's and a branch's: where the building stands after some of them, that one more goes on from
--- there, and that the turn is done where no rule or no room is left.
+-- there, and what is answered where no rule or no room is left.
 use mathlib.Core.List.{List, ◌++◌}
 use mathlib.Core.Logic.{◌⊎◌, inl, inr, ⊎_elim}
-use mathlib.Core.Path.{◌∙◌, ◌≡◌, ap, refl, subst, sym}
+use mathlib.Core.Path.{◌∙◌, ◌≡◌, ap, refl}
 use Prim.Native.Nat.{◌<◌, ◌≤◌, ℕ}
 use native.Mathlib.Omega.{arith}
 use lib.ListN.{drop, length}
+use Rattle.std.specs.Prelude.{Result}
+use Rattle.paper.specs.declared.Refusal.{Refusal}
 use Rattle.paper.specs.Stream.{records_of}
 use Rattle.building.specs.Batch.{Record, records_in}
 use Rattle.building.specs.Bounds.{batch_records, waiting_records}
-use Rattle.building.specs.Standing.{Filling, Standing, State, Stepped}
-use Rattle.building.specs.States.{counted, more}
+use Rattle.building.specs.Standing.{Filling, Standing, State, Turns}
+use Rattle.building.specs.States.{Counts, more}
 use Rattle.building.proofs.Limits.{rules_counted}
 use Rattle.building.proofs.OwnShelf.{Onward}
 
@@ -35,11 +37,9 @@ module _ (input : List ℕ) (t : State) (work batch : List ℕ) (base : List Rec
       fewer = inr (⊎_elim (λ w. omega (arith, o.fewer, ap (λ x. length (records_of (drop x input))) w.1)) (λ l. omega (arith, o.fewer)) r.fewer);
     }
 
-    pub ran_ends : t.rule < length input → (waiting_records < count) ⊎ (length input ≤ rule) → {s : State} → s ≡ counted t count rule
-        → Stepped input t work base s work' batch'
-    ran_ends h ended e =
-        subst (λ x. Stepped input t work base x work' batch') (sym e)
-        (rules_counted input t work batch base f count rule work' batch' r.standing r.few r.rest some_done)
+    pub ran_ends : t.rule < length input → (waiting_records < count) ⊎ (length input ≤ rule) → (outcome : Result (Unit {0}) Refusal) (r' : State)
+        → Counts t count rule outcome r' → Turns input t work base outcome r' work' batch'
+    ran_ends h ended outcome r' e = rules_counted input t work batch base f count rule work' batch' r.standing r.few r.rest some_done outcome r' e
       where
         some_done : length (records_of (drop rule input)) < length (records_of (drop t.rule input))
         some_done = ⊎_elim (λ w. absurd (⊎_elim (λ l. omega arith) (λ l. omega arith) ended)) (λ l. l) r.fewer

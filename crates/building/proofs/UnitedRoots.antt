@@ -27,7 +27,7 @@ use Rattle.building.specs.Standing.{Constants, Standing, State}
 use Rattle.building.proofs.Accepting.{accept_here, accept_next, accept_skip}
 use Rattle.building.proofs.Frames.{flags_at_most, slot_below}
 use Rattle.building.proofs.Making.{then_made}
-use Rattle.building.proofs.Present.{NodeReady, frame_room, node_ready, small_arity_here}
+use Rattle.building.proofs.Present.{NodeReady, frame_room, node_ready}
 use Rattle.building.proofs.ReadInput.{accepting_are}
 
 -- ---- one state after the other
@@ -62,7 +62,7 @@ module _ (input : List ℕ) (t : State) (work batch : List ℕ) where
         }
 
     -- an accepting state's slot is united on the right
-    united_more : found ≡ true → q < t.states → {places slot : ℕ} {m' : Made} {batch₂ : List ℕ} → places ≡ 2 ^ t.arity - 1
+    united_more : found ≡ true → q < t.shape.states → {places slot : ℕ} {m' : Made} {batch₂ : List ℕ} → places ≡ 2 ^ t.shape.arity - 1
         → slot ≡ shelf_from t t.top q + places
         → Makes (union_record t.node places (set_in m.set) (set_in (slot_at work slot))) 1 t.from m.count batch₁ m' batch₂
         → UnitedTo input t work (q + 1) batch m' batch₂
@@ -85,7 +85,7 @@ module _ (input : List ℕ) (t : State) (work batch : List ℕ) where
         right : set_in (slot_at work slot) ≡ slots q all
         right =
             ap (λ n. set_in (slot_at work n)) (e₂ ∙ ap (λ b. shelf_from t t.top q + b) all_places_lem)
-            ∙ sym (f.sets q all hq (omega (arith, all_places_lem, e₁, ones_lt t.arity)))
+            ∙ sym (f.sets q all hq (omega (arith, all_places_lem, e₁, ones_lt t.shape.arity)))
 
         united : Makes (λ table. union_record t.node all (united_to input t slots q table).1 (slots q all) (united_to input t slots q table).0)
             (q + 1) t.from t.count batch m' batch₂
@@ -97,27 +97,27 @@ module _ (input : List ℕ) (t : State) (work batch : List ℕ) where
 -- ---- what the code asks of the numbers, and has done
 pub record RootReady (input : List ℕ) (t : State) (work : List ℕ) (q : ℕ) : Type 0 where
   pub node : NodeReady input t work
-  pub few_flags : 2 ^ t.arity ≤ most_flags
-  pub some_flag : 1 ≤ 2 ^ t.arity
-  pub slot : {shelf size : ℕ} → shelf ≡ shelf_from t t.top q → size ≡ 2 ^ t.arity
+  pub few_flags : 2 ^ t.shape.arity ≤ most_flags
+  pub some_flag : 1 ≤ 2 ^ t.shape.arity
+  pub slot : {shelf size : ℕ} → shelf ≡ shelf_from t t.top q → size ≡ 2 ^ t.shape.arity
       → (shelf + (size - 1) < length work) × (slot_at work (shelf + (size - 1)) ≤ t.from + t.count + 1)
 
-pub root_ready : (input : List ℕ) (t : State) (work : List ℕ) (made : List Record) → Standing input t work made → (q : ℕ) → q < t.states
+pub root_ready : (input : List ℕ) (t : State) (work : List ℕ) (made : List Record) → Standing input t work made → (q : ℕ) → q < t.shape.states
     → RootReady input t work q
 root_ready input t work made s q hq = record {
   node = node_ready input t work s.constants s.node s.frames.room;
-  few_flags = flags_at_most t.arity (small_arity_here input t s.constants s.node);
-  some_flag = pow_pos t.arity;
+  few_flags = flags_at_most t.shape.arity t.shape.few_places;
+  some_flag = pow_pos t.shape.arity;
   slot = λ {shelf} {size} e₁ e₂.
       subst₂ (λ r b. (r + (b - 1) < length work) × (slot_at work (r + (b - 1)) ≤ t.from + t.count + 1)) (sym e₁) (sym e₂) at_places;
 }
   where
-    at_places : (shelf_from t t.top q + (2 ^ t.arity - 1) < length work)
-        × (slot_at work (shelf_from t t.top q + (2 ^ t.arity - 1)) ≤ t.from + t.count + 1)
+    at_places : (shelf_from t t.top q + (2 ^ t.shape.arity - 1) < length work)
+        × (slot_at work (shelf_from t t.top q + (2 ^ t.shape.arity - 1)) ≤ t.from + t.count + 1)
     at_places =
-        let size : ℕ = width t.arity t.states in
-        let b : ℕ = 2 ^ t.arity - 1 in
-        let below : q * 2 ^ t.arity + b < size = slot_below t.arity t.states q b hq (ones_lt t.arity) in
+        let size : ℕ = width t.shape.arity t.shape.states in
+        let b : ℕ = 2 ^ t.shape.arity - 1 in
+        let below : q * 2 ^ t.shape.arity + b < size = slot_below t.shape.arity t.shape.states q b hq (ones_lt t.shape.arity) in
         let top : t.top * size ≡ length s.node.stack * size = ap (λ x. x * size) s.node.high in (
           omega (arith, frame_room input t s.constants s.node, s.frames.room),
           s.frames.low (shelf_from t t.top q + b) (omega (arith, suc-mul (length s.node.stack) size)),
@@ -139,8 +139,8 @@ module _ (t : State) (lists work : List ℕ) (q : ℕ) (m : Made) (more : t.coun
         united_skip input t work first k q found (tells input k listed) m batch (done input k listed) (not-true found none);
   }
 
-  pub next_united : not found ≡ false → q < t.states → {shelf size : ℕ} {m' : Made} {batch' : List ℕ} → shelf ≡ shelf_from t t.top q
-      → size ≡ 2 ^ t.arity
+  pub next_united : not found ≡ false → q < t.shape.states → {shelf size : ℕ} {m' : Made} {batch' : List ℕ} → shelf ≡ shelf_from t t.top q
+      → size ≡ 2 ^ t.shape.arity
       → Makes (union_record t.node (size - 1) (set_in m.set) (set_in (slot_at work (shelf + (size - 1))))) 1 t.from m.count batch m' batch'
       → UnitesNext t lists work q m batch m' batch'
   next_united one hq {shelf} {size} e₁ e₂ u = record {

@@ -16,6 +16,5 @@ pub mod Coming
 pub mod Branches
 pub mod Roots
 pub mod Start
-pub mod Answer
 pub mod Driving
 pub mod Face

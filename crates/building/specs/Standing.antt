@@ -1,7 +1,9 @@
 -- Where the building stands between two turns, said of the input: which records are made, and what the work holds.
 -- First the numbers that stay, then the present node, its rules and the work, and all of it together; then where the building has
--- stopped, what a turn does, and the number that falls with each turn.
-use Rattle.std.specs.Prelude.{true, false, cond, List, [], ◌∷◌, ◌++◌, ◌⊎◌, ◌≡◌, ℕ, suc, ◌+◌, ◌*◌, ◌-◌, ◌≤◌, ◌<◌, eqb, length, get_or, drop}
+-- stopped, and what rules of a node do.
+use Rattle.std.specs.Prelude.{true, cond, List, [], ◌∷◌, ◌++◌, ◌⊎◌, ◌≡◌, ℕ, ◌+◌, ◌*◌, ◌≤◌, ◌<◌, eqb, length, get_or, drop, Result, Ok, Err}
+use Rattle.paper.specs.declared.Refusal.{Refusal}
+use Rattle.paper.specs.declared.Refusal.TheVariants.{ShortTable}
 use Rattle.paper.specs.Lists.{through}
 use Rattle.paper.specs.Stream.{StreamRecord, number, records_of, tree_records}
 use Rattle.paper.specs.Query.{Query, Rule, rules_of}
@@ -24,8 +26,8 @@ pub record Constants (input : List ℕ) (t : State) : Type 0 where
   pub query : query_reply input (2 * nodes_in input) ≡ answer (query_facts input (2 * nodes_in input))
   pub nodes : t.nodes ≡ nodes_in input
   pub rules : t.rules ≡ 2 * nodes_in input + 3
-  pub arity : t.arity ≡ (query_in input).arity
-  pub states : t.states ≡ (query_in input).states
+  pub arity : t.shape.arity ≡ (query_in input).arity
+  pub states : t.shape.states ≡ (query_in input).states
   pub asked : t.asked ≡ work_for input
   pub limit : t.limit ≤ most_records
 
@@ -76,15 +78,13 @@ pub record AtRule (input : List ℕ) (node rule : ℕ) (here : StreamRecord) (ea
 -- ---- the work
 -- the frames of these slots, the last one first; each set is at hand
 pub record InWork (t : State) (work : List ℕ) (stack : List (Slots Set)) : Type 0 where
-  pub frames : FramesAre t.arity t.states work stack
-  pub low : (i : ℕ) → i < length stack * width t.arity t.states → slot_at work i ≤ t.from + t.count + 1
+  pub frames : FramesAre t.shape.arity t.shape.states work stack
+  pub low : (i : ℕ) → i < length stack * width t.shape.arity t.shape.states → slot_at work i ≤ t.from + t.count + 1
   pub room : t.asked ≤ length work
 
 -- ---- all of it
 -- these records are made
 pub record Standing (input : List ℕ) (t : State) (work : List ℕ) (made : List Record) : Type 0 where
-  pub going : t.going ≡ true
-  pub over : t.over ≡ false
   pub constants : Constants input t
   pub node : AtNode input t.node t.at t.top
   pub slots : Slots Set
@@ -92,7 +92,7 @@ pub record Standing (input : List ℕ) (t : State) (work : List ℕ) (made : Lis
   pub frames : InWork t work (slots ∷ node.stack)
   pub used : length made ≡ t.from + t.count
 
--- in a turn: base is in the table, and the batch has the others. They are as many as fit
+-- base is in the table, and the batch has the others. They are as many as fit
 pub record Filling (input : List ℕ) (t : State) (work batch : List ℕ) (base : List Record) : Type 0 where
   pub standing : Standing input t work (base ++ records_in t.count batch)
   pub start : length base ≡ t.from
@@ -100,35 +100,36 @@ pub record Filling (input : List ℕ) (t : State) (work batch : List ℕ) (base 
 
 -- ---- where it has stopped
 -- with all records made, and the set
-pub record Done (input : List ℕ) (t : State) (all : List Record) : Type 0 where
-  pub made : made (query_in input) (tree_in input) ≡ (all, set_in t.set)
+pub record Done (input : List ℕ) (t : State) (set : ℕ) (all : List Record) : Type 0 where
+  pub constants : Constants input t
+  pub made : made (query_in input) (tree_in input) ≡ (all, set_in set)
   pub used : length all ≡ t.from + t.count
   pub few : t.from + t.count ≤ t.limit
-  pub set : t.set ≤ t.from + t.count + 1
+  pub at_hand : set ≤ t.from + t.count + 1
 
 -- or since more records are made than fit
-pub record Stopped (input : List ℕ) (t : State) (all : List Record) : Type 0 where
+pub record Past (input : List ℕ) (t : State) (why : Refusal) : Type 0 where
   pub constants : Constants input t
-  pub done : t.over ≡ false → Done input t all
-  pub past : t.over ≡ true → (t.limit < length (made_from input)) × (t.count ≡ 0)
+  pub many : t.limit < length (made_from input)
+  pub sixth : why ≡ ShortTable
 
--- ---- a turn
--- a number that falls with each turn: the nodes from the present one on count more than the records from the next rule on
-abbrev pub turns_left : List ℕ → State → ℕ
-turns_left input t =
-    cond t.going ((nodes_in input - t.node) * suc (length input) + length (records_of (drop t.rule input))) 0
-
+-- ---- rules of a node
 -- from where base is in the table; the batch has the other records that are made
 pub record Stepped (input : List ℕ) (t : State) (work : List ℕ) (base : List Record) (r : State) (work' batch' : List ℕ) : Type 0 where
+  pub filling : Filling input r work' batch' base
+  pub limit : r.limit ≡ t.limit
+  pub asked : r.asked ≡ t.asked
+  pub node : r.node ≡ t.node
+  pub rest : drop t.asked work' ≡ drop t.asked work
+  pub count : r.count ≤ batch_records
+  pub fewer : length (records_of (drop r.rule input)) < length (records_of (drop t.rule input))
+
+-- or more are made than fit
+pub record Stopped (input : List ℕ) (t : State) (work : List ℕ) (why : Refusal) (r : State) (work' : List ℕ) : Type 0 where
+  pub past : Past input r why
   pub limit : r.limit ≡ t.limit
   pub asked : r.asked ≡ t.asked
   pub rest : drop t.asked work' ≡ drop t.asked work
-  pub from : r.from ≡ length base
-  pub count : r.count ≤ batch_records
-  pub fits : r.from + r.count ≤ r.limit
-  pub goes : r.going ≡ true → Standing input r work' (base ++ records_in r.count batch')
-  pub stops : r.going ≡ false → Stopped input r (base ++ records_in r.count batch')
-  pub falls : turns_left input r < turns_left input t
 
 -- the building stands there, with some records made, as many as fit
 abbrev pub IsStanding : List ℕ → State → List ℕ → Type 0
@@ -137,11 +138,11 @@ IsStanding input t work = (made : List Record) × Standing input t work made × 
 abbrev pub IsFilling : List ℕ → State → List ℕ → List ℕ → Type 0
 IsFilling input t work batch = (base : List Record) × Filling input t work batch base
 
--- a turn from there, whatever records are in the table
-abbrev pub Turned : List ℕ → State → List ℕ → List ℕ → State → List ℕ → List ℕ → Type 0
-Turned input t work batch r work' batch' = (base : List Record) → Filling input t work batch base → Stepped input t work base r work' batch'
+-- what is answered, whatever records are in the table
+abbrev pub Turns : List ℕ → State → List ℕ → List Record → Result (Unit {0}) Refusal → State → List ℕ → List ℕ → Type 0
+Turns input t work base (Ok done) r work' batch' = Stepped input t work base r work' batch'
+Turns input t work base (Err why) r work' batch' = Stopped input t work why r work'
 
--- turns with a new batch, where the table has all records that are made
-abbrev pub Fills : List ℕ → State → List ℕ → State → List ℕ → List ℕ → Type 0
-Fills input t work r work' batch' =
-    (made : List Record) → Standing input t work made → t.from + t.count ≤ t.limit → Stepped input t work made r work' batch'
+abbrev pub Turned : List ℕ → State → List ℕ → List ℕ → Result (Unit {0}) Refusal → State → List ℕ → List ℕ → Type 0
+Turned input t work batch outcome r work' batch' =
+    (base : List Record) → Filling input t work batch base → Turns input t work base outcome r work' batch'

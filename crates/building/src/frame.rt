@@ -2,68 +2,49 @@
 // for the present node. A frame has a shelf for each state, and a shelf a slot for each flag.
 // Frames are of one size and stand one behind the other from the start of the work, and so do the shelves
 // of a frame: no two overlap, and what is written in one leaves the others.
-// First where they stand, then the two ways to write many numbers at once.
-ghost use Rattle.std.specs.Prelude.{◌≡◌, ◌+◌, ◌*◌, ◌^◌, ◌≤◌, ◌<◌, length, drop, replicate};
-ghost use Rattle.std.proofs.Math.Seq.{paste};
+ghost use Rattle.std.specs.Prelude.{◌≡◌, ◌+◌, ◌*◌, ◌^◌, ◌≤◌};
 ghost use Rattle.building.specs.Bounds.{most_frames, most_places, most_states};
-ghost use Rattle.building.specs.Frames.{width};
 
-// How many flags an arity has: a place is in a flag or not.
-pub(crate) fn flags(arity: usize) -> usize
-    requires { arity ≤ most_places }
-    ensures { result ≡ 2 ^ arity }
-{
-    1usize << arity
+// What all frames of a build have, by its query. A query that was read has no more of either.
+#[derive(Clone, Copy, Debug, PartialEq, Eq)]
+pub(crate) struct Shape {
+    pub(crate) arity: usize,
+    pub(crate) states: usize,
+    ghost few_places: { arity ≤ most_places },
+    ghost few_states: { states ≤ most_states },
 }
 
-// How many numbers a frame has: at most 16 shelves of 16 slots.
-pub(crate) fn frame_width(arity: usize, states: usize) -> usize
-    requires { (arity ≤ most_places) × (states ≤ most_states) }
-    ensures { result ≡ width arity states }
-{
-    states * flags(arity)
-}
+impl Shape {
+    ghost use Rattle.building.specs.Frames.{width};
 
-// Where a frame starts. A tree has at most 4,095 nodes, so that there are at most 4,096 frames: the
-// product stays far below what a usize holds.
-pub(crate) fn frame_at(arity: usize, states: usize, frame: usize) -> usize
-    requires arity_le_most_places { (arity ≤ most_places) × (states ≤ most_states) }
-    requires frame_le_most_frames { frame ≤ most_frames }
-    ensures { result ≡ frame * width arity states }
-{
-    frame * frame_width(arity, states)
-}
-
-// Where the shelf of a state of a frame starts: behind the frames before, and the shelves before.
-pub(crate) fn shelf_at(arity: usize, states: usize, frame: usize, state: usize) -> usize
-    requires arity_le_most_places { (arity ≤ most_places) × (states ≤ most_states) }
-    requires frame_le_most_frames { (frame ≤ most_frames) × (state ≤ most_states) }
-    ensures { result ≡ frame * width arity states + state * 2 ^ arity }
-{
-    frame_at(arity, states, frame) + state * flags(arity)
-}
-
-// So many numbers, set to 0: no slot has a set then, and none is marked.
-pub(crate) fn clear(work: &mut [u64], from: usize, n: usize)
-    requires { from + n ≤ length work.old }
-    ensures { work.new ≡ paste work.old from (replicate n 0) n }
-{
-    let mut i = 0;
-    while i < n {
-        work[from + i] = 0;
-        i += 1;
+    // How many flags there are, and so slots of a shelf: a place is in a flag or not.
+    pub(crate) fn flags(self) -> usize
+        ensures { result ≡ 2 ^ self.arity }
+    {
+        1usize << self.arity
     }
-}
 
-// So many numbers, copied to a place before them. The two parts do not overlap, so that none is written
-// over before it is copied. The loop ends when i has come to n.
-pub(crate) fn copy_down(work: &mut [u64], from: usize, to: usize, n: usize)
-    requires { (to + n ≤ from) × (from + n ≤ length work.old) }
-    ensures { work.new ≡ paste work.old to (drop from work.old) n }
-{
-    let mut i = 0;
-    while i < n {
-        work[to + i] = work[from + i];
-        i += 1;
+    // How many numbers a frame has: at most 16 shelves of 16 slots.
+    pub(crate) fn frame_width(self) -> usize
+        ensures { result ≡ width self.arity self.states }
+    {
+        self.states * self.flags()
+    }
+
+    // Where a frame starts. A tree has at most 4,095 nodes, so that there are at most 4,096 frames: the
+    // product stays far below what a usize holds.
+    pub(crate) fn frame_at(self, frame: usize) -> usize
+        requires { frame ≤ most_frames }
+        ensures { result ≡ frame * width self.arity self.states }
+    {
+        frame * self.frame_width()
+    }
+
+    // Where the shelf of a state of a frame starts: behind the frames before, and the shelves before.
+    pub(crate) fn shelf_at(self, frame: usize, state: usize) -> usize
+        requires { (frame ≤ most_frames) × (state ≤ most_states) }
+        ensures { result ≡ frame * width self.arity self.states + state * 2 ^ self.arity }
+    {
+        self.frame_at(frame) + state * self.flags()
     }
 }

@@ -20,8 +20,7 @@ struct Masks {
 // The masks of one flag, for the right flags below size. The triples with no own flag in which it is the
 // left one begin at `from`, right flags ascending: so each b below size is either that of the triple at
 // hand, and then the next one comes to hand, or shares a bit. For a rule with an own flag the flag is that
-// of both, own and left, as the paper has it. The loop ends when b has come to size: no mask has a flag of a
-// place that the query lacks.
+// of both, own and left, as the paper has it. No mask has a flag of a place that the query lacks.
 fn masks_of(triples: &[u16; TRIPLE_COUNT], from: usize, flag: usize, size: usize) -> Masks
     requires triples_value { triples.now ≡ all_triples }
     requires flag_lt_most_flags { (flag < most_flags) × (size ≤ most_flags) }
@@ -32,33 +31,29 @@ fn masks_of(triples: &[u16; TRIPLE_COUNT], from: usize, flag: usize, size: usize
     let mut free = 0u16;
     let mut shared = 0u16;
     let mut i = from;
-    let mut b = 0;
-    while b < size {
+    for b in 0..size {
         if triples[i] as usize == first + b {
-            free = free | 1u16 << b;
+            free |= 1u16 << b;
             i += 1;
         } else {
-            shared = shared | 1u16 << b;
+            shared |= 1u16 << b;
         }
-        b += 1;
     }
     Masks { free, shared }
 }
 
 // The masks of each flag below size. The tables are laid out once, here, and lent: at a variable index a
-// constant array is laid out anew at each look-up. The loop ends when `flag` has come to size.
+// constant array is laid out anew at each look-up.
 pub(crate) fn note(notes: &mut [u16], size: usize)
     requires { (size ≤ most_flags) × (note_numbers ≤ length notes.old) }
     ensures { Noted size notes.new }
 {
     let triples = TRIPLES;
     let lefts = LEFTS;
-    let mut flag = 0;
-    while flag < size {
+    for flag in 0..size {
         let masks = masks_of(&triples, lefts[flag] as usize, flag, size);
         notes[flag] = masks.free;
         notes[MOST_FLAGS + flag] = masks.shared;
-        flag += 1;
     }
 }
 

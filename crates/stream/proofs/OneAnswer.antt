@@ -1,48 +1,32 @@
 -- The contracts leave no freedom: two results that are allowed for one input are equal.
--- First the readers, whose enum is told by what it says, then the next rule.
+-- First the readers, whose result is told by what it says, then the next rule.
 use mathlib.Core.Bool.{false, true, true≢false}
 use mathlib.Core.List.Memᴰ
 use mathlib.Core.List.{List, [], ◌++◌, ◌∷◌, head-eq_of_cons-eq, nil≢cons, tail-eq_of_cons-eq}
 use mathlib.Core.Logic.{⊎_elim}
-use mathlib.Core.Path.{◌∙◌, ◌≡◌, ap, refl, sym}
+use mathlib.Core.Path.{◌∙◌, ◌≡◌, ap, sym}
 use Prim.Native.Nat.{◌<◌, ◌≤◌, ℕ}
 use native.Mathlib.Omega.{arith}
 use lib.ListN.{drop, length}
+use Rattle.std.specs.Prelude.{Result}
+use Rattle.paper.specs.declared.StreamRefusal.{StreamRefusal}
+use Rattle.paper.specs.Answers.{no_of_stream}
 use Rattle.paper.specs.Lists.{◌∈◌}
-use Rattle.paper.specs.Refusals.{Reply, answer, refused}
 use Rattle.paper.specs.Stream.{StreamRecord, records_of}
-use Rattle.laws.proofs.Answers.{stream_refusal_told, stream_refusal_of, told_apart}
+use Rattle.laws.proofs.Answers.{one_result, stream_refusal_of, stream_refusal_told}
 use Rattle.laws.proofs.Lists.{here}
 use Rattle.stream.specs.Positions.{NextRule, is_rule_for, record_at}
-use Rattle.stream.specs.Reading.{QueryFacts, QueryRead, TreeFacts, TreeRead, query_reply, says_query, says_tree, tree_reply}
-use Rattle.stream.specs.declared.head.QueryRead.TheVariants as QueryReadIs
-use Rattle.stream.specs.declared.tree.TreeRead.TheVariants as TreeReadIs
+use Rattle.stream.specs.Reading.{QueryFacts, TreeFacts, query_reply, says_query, says_tree, tree_reply}
 use Rattle.stream.proofs.Positions.{one_rest, records_here, records_none}
 
 -- ---- the readers
-abbrev tree_read_of : Reply TreeFacts → TreeRead
-tree_read_of (refused n) = TreeReadIs.Refused (stream_refusal_of n)
-tree_read_of (answer f) = TreeReadIs.Tree f
-
-tree_told : (r : TreeRead) → tree_read_of (says_tree r) ≡ r
-tree_told (TreeReadIs.Tree f) = refl
-tree_told (TreeReadIs.Refused r) = ap TreeReadIs.Refused (stream_refusal_told r)
-
-abbrev query_read_of : Reply QueryFacts → QueryRead
-query_read_of (refused n) = QueryReadIs.Refused (stream_refusal_of n)
-query_read_of (answer f) = QueryReadIs.Query f
-
-query_told : (r : QueryRead) → query_read_of (says_query r) ≡ r
-query_told (QueryReadIs.Query f) = refl
-query_told (QueryReadIs.Refused r) = ap QueryReadIs.Refused (stream_refusal_told r)
-
 -- two results of `read_tree`
-pub one_tree : (input : List ℕ) (r s : TreeRead) → says_tree r ≡ tree_reply input → says_tree s ≡ tree_reply input → r ≡ s
-one_tree input r s a b = told_apart says_tree tree_read_of tree_told r s (a ∙ sym b)
+pub one_tree : (input : List ℕ) (r s : Result TreeFacts StreamRefusal) → says_tree r ≡ tree_reply input → says_tree s ≡ tree_reply input → r ≡ s
+one_tree input r s a b = one_result no_of_stream stream_refusal_of stream_refusal_told r s (a ∙ sym b)
 
 -- two results of `read_query`
-pub one_query : (input : List ℕ) (at : ℕ) (r s : QueryRead) → says_query r ≡ query_reply input at → says_query s ≡ query_reply input at → r ≡ s
-one_query input at r s a b = told_apart says_query query_read_of query_told r s (a ∙ sym b)
+pub one_query : (input : List ℕ) (at : ℕ) (r s : Result QueryFacts StreamRefusal) → says_query r ≡ query_reply input at → says_query s ≡ query_reply input at → r ≡ s
+one_query input at r s a b = one_result no_of_stream stream_refusal_of stream_refusal_told r s (a ∙ sym b)
 
 -- ---- the next rule
 module _ (kind label : ℕ) where

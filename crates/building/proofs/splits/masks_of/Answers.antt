@@ -14,30 +14,27 @@ within : (flag b free shared i : ℕ) → flag < most_flags → b < most_flags �
 within flag b free shared i t l m = omega (arith, m.place, place_small flag b t (omega arith))
 
 pub offset_bounds-triples-i : goal.offset_bounds-triples-i
-offset_bounds-triples-i c = omega (arith, within _ _ _ _ _ c.requires.flag_lt_most_flags.0 (omega arith) c.loop-b.invariant.masking)
+offset_bounds-triples-i c = omega (arith, within _ _ _ _ _ c.requires.flag_lt_most_flags.0 (omega arith) c.loop-b.invariant)
 
 pub bounds-triples-i : goal.bounds-triples-i
-bounds-triples-i c = within _ _ _ _ _ c.requires.flag_lt_most_flags.0 (omega arith) c.loop-b.invariant.masking
+bounds-triples-i c = within _ _ _ _ _ c.requires.flag_lt_most_flags.0 (omega arith) c.loop-b.invariant
 
 pub loop-b-preserved : goal.loop-b-preserved
 loop-b-preserved c =
     let a = c.args in
     let l = c.loop-b in
-    let m = l.invariant.masking in
+    let m = l.invariant in
     let t = c.requires.flag_lt_most_flags.0 in
     let inside : l.b < most_flags = omega arith in
     let i_inside : l.i < triple_count = within _ _ _ _ _ t inside m in
     let bit = shl_exact {a = 1} 1 l.b 16 (omega arith) (omega arith) in
     let number : most_flags * a.flag + l.b ≡ packed 0 (a.flag, l.b) = omega arith in
     let whole = c.requires.triples_value in
-    record {
-      within = omega arith;
-      masking = elim c.if-triples-i.branch [
-        | then-triples-i w ↦
-            subst₃ (Masking a.flag (l.b + 1)) (sym (w.free-is ∙ ap (bit_or l.free) bit)) (sym w.shared-is) (sym w.i-is)
-            (masking_apart m (shown a.flag l.b t inside a.triples.now whole l.i i_inside (w.if-triples-i.true ∙ number)))
-        | else-triples-i w ↦
-            subst₃ (Masking a.flag (l.b + 1)) (sym w.free-is) (sym (w.shared-is ∙ ap (bit_or l.shared) bit)) (sym w.i-is)
-            (masking_shared m (not_shown a.flag l.b t inside a.triples.now whole l.i m.place (λ e. w.if-triples-i.false (e ∙ sym number))))
-      ];
-    }
+    elim c.if-triples-i.branch [
+      | then-triples-i w ↦
+          subst₃ (Masking a.flag (l.b + 1)) (sym (w.free-is ∙ ap (bit_or l.free) bit)) (sym w.shared-is) (sym w.i-is)
+          (masking_apart m (shown a.flag l.b t inside a.triples.now whole l.i i_inside (w.if-triples-i.true ∙ number)))
+      | else-triples-i w ↦
+          subst₃ (Masking a.flag (l.b + 1)) (sym w.free-is) (sym (w.shared-is ∙ ap (bit_or l.shared) bit)) (sym w.i-is)
+          (masking_shared m (not_shown a.flag l.b t inside a.triples.now whole l.i m.place (λ e. w.if-triples-i.false (e ∙ sym number))))
+    ]

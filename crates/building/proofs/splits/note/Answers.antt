@@ -7,7 +7,4 @@ pub loop-flag-preserved : goal.loop-flag-preserved
 loop-flag-preserved c =
     let l = c.loop-flag in
     let r = c.masks_of-masks.result in
-    record {
-      within = omega arith;
-      noted = noted_onward _ l.flag r.free r.shared l.notes (omega arith) (omega arith) l.invariant.noted c.masks_of-masks.ensures;
-    }
+    noted_onward _ l.flag r.free r.shared l.notes (omega arith) (omega arith) l.invariant c.masks_of-masks.ensures
