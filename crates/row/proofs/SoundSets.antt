@@ -74,7 +74,7 @@ rows_counted s = go s.head.set (is_sound s).set
     go (SetIs.Record root) fits = rows_are s root fits.0
 
 -- what `weigh` leaves of a sound set
-pub weighed_work : {h : Head} {table : List Record} {work work₁ : List ℕ} → Weighs h table work (Ok tt) work₁ → take h.used work₁ ≡ weights h table
-weighed_work {h} {table} {work} W =
+pub weights_left : {h : Head} {table : List Record} {work work₁ : List ℕ} → Weighs h table work (Ok tt) work₁ → take h.used work₁ ≡ weights h table
+weights_left {h} {table} {work} W =
     ap (take h.used) (sound_work W refl)
     ∙ take_at (weights h table) (drop (length (weights h table)) work) h.used (weights_length h table (sound_set W refl).used_there)
