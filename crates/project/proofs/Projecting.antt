@@ -27,7 +27,6 @@ use Rattle.laws.proofs.Listed.{row_stands, stands_row}
 use Rattle.laws.proofs.Bits.{no_places}
 use Rattle.laws.proofs.Lists.{both_true, iff_eq, in_at, or_cases, true_has, which}
 use Rattle.sound.proofs.Overwriting.{cleared_all}
-use Rattle.project.specs.Answer.{Askable}
 use Rattle.project.specs.Marks.{Kept, marks_in}
 use Rattle.project.specs.Passing.{InWork, Ready, nodes_kept, passed, root_marked, turns}
 use Rattle.project.proofs.Zeros.{zeroed, zeroed_length, zeroed_rest, zeroed_within}
@@ -56,8 +55,11 @@ pub record Ends (h : Head) (table : List Record) (place : ℕ) (work now : List 
   pub marks : marks_in (take h.used now) h.nodes ≡ marks_of h table place
 
 -- each record that is looked at is in the table, and its cells are in the work
-pub pass_ready : {h : Head} {table : List Record} {work : List ℕ} → Askable h table work → Ready h table work
-pass_ready {h} {table} {work} A = record { there = omega (arith, few h.set A.sound.set, A.sound.used_there); cells = λ k w. in_work k (omega (arith, few h.set A.sound.set)) }
+pub pass_ready : {h : Head} {table : List Record} → Sound h table → (work : List ℕ) → h.used ≤ length work → Ready h table work
+pass_ready {h} {table} S work room = record {
+  there = omega (arith, few h.set S.set, S.used_there);
+  cells = λ k w. in_work k (omega (arith, few h.set S.set));
+}
   where
     few : (set : Set) → SetFits h (used_of h table) set → turns set ≤ h.used
     few empty fits = omega arith
@@ -67,9 +69,8 @@ pass_ready {h} {table} {work} A = record { there = omega (arith, few h.set A.sou
     in_work : (k : ℕ) → k < h.used → InWork k (entry table k) work
     in_work k l =
         let same : entry (used_of h table) k ≡ entry table k = get_or-take h.used table k blank_entry l in
-        let (left, right) = operands_low h table A.sound k l in
-        let room = A.room in
-        rw (← same) (record { kind = known_kind h table A.sound k l; own = omega arith; left = omega (arith, left); right = omega (arith, right) })
+        let (left, right) = operands_low h table S k l in
+        rw (← same) (record { kind = known_kind h table S k l; own = omega arith; left = omega (arith, left); right = omega (arith, right) })
 
 module _ (h : Head) (table : List Record) (S : Sound h table) (place : ℕ) (opened : is_open h place ≡ true) where
   abbrev i : ℕ
