@@ -30,20 +30,6 @@ pub record Before (f : Fixing) (used : List Record) (first : List ℕ) (k count 
   pub none : unit_twice (images f used) (take k used) ≡ false
 
 module _ {f : Fixing} {used : List Record} {first : List ℕ} {k count : ℕ} {work : List ℕ} (now : Before f used first k count work) where
-  -- ---- behind the last record
-  pub ended : k ≡ length used → Imaged f used first (Ok tt) work
-  ended end = record {
-    rest = now.rest;
-    twice = rw none_at_all refl;
-    found = λ _ i l. now.has i (omega (arith, l, end)) ∙ ap (λ (all : List Record). set_number (get_or (images f all) i empty)) whole;
-  }
-    where
-      whole : take k used ≡ used
-      whole = ap (λ (m : ℕ). take m used) end ∙ all_of used
-
-      none_at_all : unit_twice (images f used) used ≡ false
-      none_at_all = ap (unit_twice (images f used)) (sym whole) ∙ now.none
-
   -- ---- at a record
   module _ (below : k < length used) where
     abbrev r : Record
