@@ -15,7 +15,7 @@ use paper::limits::MOST_WRITTEN_NODES;
 // A written node is at most two digits and two brackets, or a blank instead of these.
 const LONGEST_NODE: usize = 4;
 
-pub(crate) const LONGEST_TEXT: usize = MOST_WRITTEN_NODES * LONGEST_NODE;
+const LONGEST_TEXT: usize = MOST_WRITTEN_NODES * LONGEST_NODE;
 
 // A node, by its label, and what of it is still to come.
 #[derive(Clone, Copy, Debug, PartialEq, Eq)]
