@@ -1,9 +1,9 @@
--- The set of an input, or what the program refuses: first an input that is too long, then what `build` and `count` say of one that is not.
+-- The set of an input that is not too long, or what the program refuses: what `build` and `count` say together.
 use mathlib.Core.List.{List, [], append-nil}
 use mathlib.Core.Path.{◌∙◌, ◌≡◌, ap, ap₂, refl, subst, sym}
-use Prim.Native.Nat.{◌<◌, ◌≤◌, ℕ}
+use Prim.Native.Nat.{◌≤◌, ℕ}
 use native.Mathlib.Omega.{arith}
-use borrow.Author.Tests.{le-leb, lt-leb}
+use borrow.Author.Tests.{le-leb}
 use lib.ListN.{length, take}
 use lib.Seq.{take-length}
 use Rattle.std.specs.Prelude.{Result, Ok, Err}
@@ -14,7 +14,7 @@ use Rattle.paper.specs.declared.StreamRefusal.{StreamRefusal}
 use Rattle.paper.specs.Answers.{no_of_stream, says_built, says_counted, told}
 use Rattle.paper.specs.Questions.{count_of}
 use Rattle.paper.specs.Records.{listing, listings, set_rows, used_of}
-use Rattle.paper.specs.Refusals.{Reply, Test, answer, build, build_tests, count, head_from, made_from, no, program, refused, table_after, unless}
+use Rattle.paper.specs.Refusals.{Reply, Test, answer, build, build_tests, count, head_from, made_from, program, refused, table_after, unless}
 use Rattle.paper.specs.Row.{Row}
 use Rattle.laws.specs.Built.{BuiltSet}
 use Rattle.laws.proofs.BuiltSets.{built_good, built_right}
@@ -25,10 +25,6 @@ use Rattle.building.specs.Face.{Builds}
 use Rattle.sound.specs.Face.{Counts}
 use Rattle.list.specs.Listing.{IsSet, set_text}
 use Rattle.list.specs.Text.{program_text}
-
--- ---- an input that is too long is refused before all
-pub too_long : (input : List ℕ) → 16384 < length input → program input ≡ refused (no 14)
-too_long input long = rw (lt-leb (length input) 16384 long)
 
 -- the records made, and the rows
 abbrev tells_of : Head × List Record → ℕ × List Row

@@ -5,7 +5,7 @@ use Prim.Native.Nat.{◌*◌, ◌+◌, ◌<◌, ◌≤◌, suc, zero, ℕ}
 use native.Mathlib.Numerals.{add-one}
 use native.Mathlib.Omega.{arith}
 use lib.ListN.{drop, get_or, length, length-append, take, take-append-drop}
-use lib.Seq.{take-length, take-suc}
+use lib.Seq.{take-suc}
 use Rattle.paper.specs.declared.Head.{Head}
 use Rattle.paper.specs.declared.Record.{Record}
 use Rattle.paper.specs.Lists.{◌∈◌}
@@ -72,9 +72,6 @@ module _ (h : Head) (table : List Record) where
       ap (λ (some : List Row). facts (lines_text some)) (sym (take-append-drop n rows))
       ∙ ap facts (lines_append (take n rows) (drop n rows))
       ∙ facts_append (lines_text (take n rows)) (lines_text (drop n rows))
-
-  pub to_all : (n : ℕ) → n ≡ count_of h table → lines_to h table n ≡ set_text h table
-  to_all n e = ap (λ (k : ℕ). facts (lines_text (take k rows))) e ∙ ap (λ (some : List Row). facts (lines_text some)) (take-length rows)
 
   pub to_short : ((row : Row) → row ∈ rows → length row ≤ 4) → (n : ℕ) → n ≤ count_of h table → length (lines_to h table n) ≤ longest_opening + longest_line * n
   to_short four n below =

@@ -1,7 +1,7 @@
 -- What is put first: the two lines before the rows, or the line of a refusal. Nothing is handed on then, and all that is told so far waits.
 use mathlib.Core.List.{List, [], ◌++◌, append-nil}
 use mathlib.Core.Path.{◌∙◌, ◌≡◌, ap, refl, sym}
-use Prim.Native.Nat.{◌<◌, ◌^◌, ◌≤◌, ℕ}
+use Prim.Native.Nat.{◌≤◌, ℕ}
 use native.Mathlib.Omega.{arith}
 use lib.ListN.{length, length-append, take}
 use Rattle.paper.specs.declared.Head.{Head}
@@ -10,7 +10,7 @@ use Rattle.paper.specs.Questions.{count_of}
 use Rattle.paper.specs.Refusals.{No, Reply, program, refused}
 use Rattle.paper.specs.Row.{Row}
 use Rattle.lines.specs.Put.{put_fact, put_refusal}
-use Rattle.lines.specs.Text.{fact_text, refusal_text}
+use Rattle.lines.specs.Text.{fact_text}
 use Rattle.lines.proofs.Putting.{fact_short, puts_fact, puts_refusal, refusal_short}
 use Rattle.list.specs.Bounds.{largest_text, longest_opening}
 use Rattle.list.specs.declared.page.Page.{Page}

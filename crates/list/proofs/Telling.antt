@@ -1,5 +1,5 @@
 -- How far the text is told: as what waits is handed on, as a line is put, and where all is told.
-use mathlib.Core.List.{List, [], ◌++◌, append_assoc, append_cancel_left, append-nil}
+use mathlib.Core.List.{List, ◌++◌, append_assoc, append_cancel_left, append-nil}
 use mathlib.Core.Path.{◌∙◌, ◌≡◌, ap, refl, sym}
 use Prim.Native.Nat.{◌+◌, ◌<◌, ◌^◌, ℕ}
 use native.Mathlib.Omega.{arith}
@@ -9,7 +9,7 @@ use lib.ListN.{drop, length, length-append, take, take-append-drop}
 use lib.Seq.{take_at}
 use Rattle.list.specs.Bounds.{largest_text, longest_line}
 use Rattle.list.specs.declared.page.Page.{Page}
-use Rattle.list.specs.Handing.{Next, text_of}
+use Rattle.list.specs.Handing.{text_of}
 use Rattle.list.specs.Listing.{Tells}
 use Rattle.list.specs.Page.{Waits, lined, passed_on, with_room}
 use Rattle.list.specs.Text.{line_text}

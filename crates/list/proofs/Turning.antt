@@ -1,38 +1,32 @@
 -- A turn of the loop over the rows: the row is answered, its line may be put, and then the text is told up to the next row.
 use mathlib.Core.List.{List, [], ◌++◌}
-use mathlib.Core.Path.{◌∙◌, ◌≡◌, ap, ap₂, refl, subst, sym}
+use mathlib.Core.Path.{◌∙◌, ◌≡◌, ap, subst, sym}
 use Prim.Native.Nat.{◌+◌, ◌<◌, ◌^◌, ◌≤◌, ℕ}
 use native.Mathlib.Omega.{arith}
 use borrow.Author.Tests.{le-leb, lt-ltb}
 use lib.ListN.{drop, length, length-append, take}
 use lib.Seq.{take_at}
-use Rattle.std.specs.Prelude.{IsOk, Result, Ok, Err}
+use Rattle.std.specs.Prelude.{Result}
 use Rattle.paper.specs.declared.Head.{Head}
 use Rattle.paper.specs.declared.Record.{Record}
 use Rattle.paper.specs.declared.Refusal.{Refusal}
-use Rattle.paper.specs.Answers.{says_written, told}
 use Rattle.paper.specs.Questions.{count_of, row_numbered}
 use Rattle.paper.specs.Records.{listing}
-use Rattle.paper.specs.Refusals.{Reply, answer, output_after, over, row_by_number, row_tests}
+use Rattle.paper.specs.Refusals.{Reply, answer, output_after, row_by_number, row_tests}
 use Rattle.paper.specs.Row.{Row}
 use Rattle.laws.specs.QuestionCauses.{Sound}
 use Rattle.laws.proofs.Lists.{in_at}
-use Rattle.laws.proofs.Replies.{answers, refused_not_answer}
+use Rattle.laws.proofs.Replies.{answers}
 use Rattle.laws.proofs.SoundTest.{sound_is}
 use Rattle.row.specs.Face.{Numbers}
 use Rattle.list.specs.declared.page.Page.{Page}
 use Rattle.list.specs.Handing.{text_of}
-use Rattle.list.specs.Listing.{IsSet, Lists, Tells, lines_to}
+use Rattle.list.specs.Listing.{IsSet, Tells, lines_to}
 use Rattle.list.specs.Page.{Waits, lined, with_room}
 use Rattle.list.specs.Text.{line_text, lines_text}
-use Rattle.list.proofs.LinesText.{line_short, to_all, to_more, to_short, to_whole}
+use Rattle.list.proofs.LinesText.{line_short, to_more, to_short, to_whole}
 use Rattle.list.proofs.SoundRows.{rows_few, rows_long}
 use Rattle.list.proofs.Telling.{line_of, line_tells, tells_waits}
-
--- what was answered with a row is a row
-written_ok : (r : Result (Unit {0}) Refusal) → says_written r ≡ answer tt → IsOk r
-written_ok (Ok a) e = refl
-written_ok (Err why) e = absurd (refused_not_answer e)
 
 -- the lines of the rows before this one are told
 pub record Going (input : List ℕ) (h : Head) (table : List Record) (n : ℕ) (p : Page) : Type 0 where
@@ -43,15 +37,8 @@ module _ (input : List ℕ) (h : Head) (rows : ℕ) (table : List Record) (cells
   is_sound : Sound h table
   is_sound = sound_is h table S.is_sound
 
-  pub few_places : h.arity ≤ 4
+  few_places : h.arity ≤ 4
   few_places = is_sound.few_places
-
-  -- where the rows end, all is told
-  pub ends : (n : ℕ) (p : Page) → n ≡ rows → Going input h table n p → Lists input p
-  ends n p last G = record {
-    of = G.of;
-    tells = subst (λ (far : List ℕ). Tells far p) (to_all h table n (last ∙ S.count) ∙ S.text) G.tells;
-  }
 
   module _ (n : ℕ) (below : n < rows) (work out : List ℕ) (cells_are : length work ≡ cells) (places_are : length out ≡ 4)
       (r : Result (Unit {0}) Refusal) (work' out' : List ℕ) (N : Numbers h table work n out r work' out') where
@@ -70,9 +57,6 @@ module _ (input : List ℕ) (h : Head) (rows : ℕ) (table : List Record) (cells
           le-leb h.used (length work) (omega (arith, S.enough, cells_are)),
           (S.is_sound, (lt-ltb n (count_of h table) listed, (le-leb h.arity (length out) (omega (arith, few_places, places_are)), tt))),
         )
-
-    pub row_written : IsOk r
-    row_written = written_ok r (N.answer ∙ ap (told (λ _. tt)) reply)
 
     taken : take h.arity out' ≡ row
     taken =

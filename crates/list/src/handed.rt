@@ -11,8 +11,9 @@ const FAILURE: &[u8] = b"list: the text could not be written\n";
 
 // How many bytes of what the program tells of an input were handed on. The fields are known in this file only: nothing else can count a
 // byte as handed on, or change whose text is counted. `tree` has its own: what may be handed on is each program's own text, and that is
-// asked for by a `requires`, which no public function of a library has.
-#[derive(Clone, Copy)]
+// asked for by a `requires`, which no public function of a library has. It is no `Copy`, so that a count from before a write is not used
+// again.
+#[derive(Drop)]
 pub(crate) struct Handed<'a> {
     input: &'a [u8],
     bytes: u64,

@@ -50,16 +50,16 @@ fn set_of(
 fn rows(
     page: &mut Page,
     head: Head,
-    rows: u64,
+    count: u64,
     table: &[Record],
     work: &mut [u64],
 ) -> Result<(), Unwritten>
-    requires set { IsSet page.old.handed.input.now head rows table.now (length work.old) }
+    requires set { IsSet page.old.handed.input.now head count table.now (length work.old) }
     requires opened { Tells (lines_to head table.now 0) page.old }
     ensures { OnOk result (Lists page.old.handed.input.now page.new) }
 {
     let mut row = [0; MOST_PLACES];
-    for number in 0..rows {
+    for number in 0..count {
         row::row(head, table, work, number, &mut row).unwrap();
         page.put_line(&row[..usize::from(head.arity)])?;
     }
@@ -72,14 +72,7 @@ fn list(page: &mut Page) -> Result<(), Unwritten>
     requires empty { page.old.text ≡ [] }
     ensures { OnOk result (Lists page.old.handed.input.now page.new) }
 {
-    let blank = Record {
-        kind: 0,
-        node: 0,
-        left: 0,
-        right: 0,
-        flag: 0,
-    };
-    let mut table = [blank; TABLE_ENTRIES];
+    let mut table = [Record::BLANK; TABLE_ENTRIES];
     let mut work = [0; WORK_NUMBERS];
     match set_of(page.handed.input(), &mut work, &mut table) {
         Ok((head, count)) => {

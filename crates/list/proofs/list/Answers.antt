@@ -1,5 +1,5 @@
 -- The first lines of a set, or the line of a refusal.
-use Rattle.std.proofs.Common.{List, [], ℕ, ap, ap₂, sym, ◌∙◌}
+use Rattle.std.proofs.Common.{List, ℕ, ap, ap₂, sym, ◌∙◌}
 use Rattle.paper.specs.Answers.{no_of_stream}
 use Rattle.paper.specs.Refusals.{program}
 use Rattle.lines.specs.Put.{put_fact, put_refusal}

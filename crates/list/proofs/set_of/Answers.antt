@@ -6,8 +6,8 @@ use Rattle.list.proofs.set_of.Goals as goal
 pub returns-in_err-head-clause-refused : goal.returns-in_err-head-clause-refused
 returns-in_err-head-clause-refused c =
     let refused =
-        build_refused c.args.input.now c.args.work.now c.args.table.now (omega arith) (omega arith) (omega arith) c.build.result c.build.new.work
-        c.build.new.table c.build.ensures c.in_err-head.field-0.0 c.in_err-head.was in
+    build_refused c.args.input.now c.args.work.now c.args.table.now (omega arith) (omega arith) (omega arith) c.build.result c.build.new.work
+    c.build.new.table c.build.ensures c.in_err-head.field-0.0 c.in_err-head.was in
     search rules
 
 pub returns-in_err-rows-clause-refused : goal.returns-in_err-rows-clause-refused
