@@ -6,9 +6,9 @@ use mathlib.Core.Path.{◌≡◌, refl, sym, ◌∙◌, ap, subst}
 use Prim.Native.Nat.{ℕ}
 use native.Mathlib.Omega.{arith}
 use lib.ListN.{length}
-use Rattle.paper.specs.declared.Converted.{Converted}
-use Rattle.paper.specs.declared.Converted.TheVariants as ConvertedIs
-use Rattle.paper.specs.Answers.{no_of, says_converted, told}
+use Rattle.std.specs.Prelude.{Result}
+use Rattle.paper.specs.declared.Refusal.{Refusal}
+use Rattle.paper.specs.Answers.{no_of, told}
 use Rattle.paper.specs.BracketedText.{Writes}
 use Rattle.paper.specs.CanonicalText.{text_of}
 use Rattle.paper.specs.Conversions.{Conversion, Images, no_room, of_none, the_result}
@@ -16,7 +16,7 @@ use Rattle.paper.specs.Image.{image_bytes}
 use Rattle.paper.specs.Refusals.{No, Reply, answer, no, no_at, output_after, refused}
 use Rattle.paper.specs.WrittenTree.{WrittenTree}
 use Rattle.laws.specs.First.{Alone, FirstOf, NoneOf}
-use Rattle.laws.proofs.Answers.{one_converted}
+use Rattle.laws.proofs.Answers.{one_answer}
 use Rattle.laws.proofs.Judged.{first_not_none}
 use Rattle.writings.proofs.Replies.{one_right}
 use Rattle.writings.proofs.RoundTrips.{one_image}
@@ -24,7 +24,7 @@ use Rattle.writings.proofs.Texts.{one_tree}
 use Rattle.text.specs.Face.{Converts, MakesText, MakesTree}
 use Rattle.demands.specs.Conversions.{Cause, TextCause, TreeCause, conversion_order}
 use Rattle.demands.specs.Refused.{Exact}
-use Rattle.demands.proofs.Refusals.{Told, exact_reply}
+use Rattle.demands.proofs.Refusals.{exact_reply}
 
 -- ---- the law
 -- a number is replied exactly if it is that of the first cause that applies
@@ -41,17 +41,13 @@ module _ (Of : WrittenTree → Type 0) (result : WrittenTree → List ℕ) (room
   first (no n) (inr (h, inr (h', f))) = absurd f
   first (no_at n p) f = absurd f
 
-converted_cases : (r : Converted) → Told ConvertedIs.Refused says_converted r
-converted_cases (ConvertedIs.Bytes n) = inr (n, refl)
-converted_cases (ConvertedIs.Refused why) = inl (why, refl)
-
 -- of a source that is of one tree at most
 module _ (Of : WrittenTree → Type 0) (result : WrittenTree → List ℕ) (one_of_lem : (v w : WrittenTree) → Of v → Of w → v ≡ w) (out : List ℕ) where
-  one_conversion : (out₁ out₂ : List ℕ) (r s : Converted) → Converts (Conversion Of result (length out)) out r out₁
+  one_conversion : (out₁ out₂ : List ℕ) (r s : Result ℕ Refusal) → Converts (Conversion Of result (length out)) out r out₁
       → Converts (Conversion Of result (length out)) out s out₂ → (r ≡ s) × (out₁ ≡ out₂)
   one_conversion out₁ out₂ r s a b =
       let e : a.reply ≡ b.reply = one_right Of result one_of_lem (length out) a.reply b.reply a.right b.right in (
-        one_converted r s (a.answer ∙ ap (told length) e ∙ sym b.answer),
+        one_answer r s (a.answer ∙ ap (told length) e ∙ sym b.answer),
         a.written ∙ ap (λ x. output_after x out) e ∙ sym b.written,
       )
 
@@ -65,10 +61,10 @@ module _ (Of : WrittenTree → Type 0) (result : WrittenTree → List ℕ) (one_
     ),
   )
 
-  exact : (r : Converted) (out' : List ℕ) → Converts (Conversion Of result (length out)) out r out'
-      → Exact no_of ConvertedIs.Refused r (Alone (FirstOf conversion_order (Cause Of result (length out)))) (NoneOf conversion_order (Cause Of result (length out)))
+  exact : (r : Result ℕ Refusal) (out' : List ℕ) → Converts (Conversion Of result (length out)) out r out'
+      → Exact no_of r (Alone (FirstOf conversion_order (Cause Of result (length out)))) (NoneOf conversion_order (Cause Of result (length out)))
   exact r out' c =
-      exact_reply no_of ConvertedIs.Refused says_converted (λ why. refl) converted_cases length c.reply r c.answer
+      exact_reply no_of length c.reply r c.answer
       (λ n. (
         λ e. refuses Of result (length out) n (subst (Conversion Of result (length out)) e c.right),
         λ f. one_right Of result one_of_lem (length out) c.reply (refused n) c.right (first Of result (length out) n f),
@@ -84,18 +80,18 @@ module _ (Of : WrittenTree → Type 0) (result : WrittenTree → List ℕ) (one_
 
 -- ---- text to tree
 module _ (text out : List ℕ) where
-  pub one_text_to_tree : (out₁ out₂ : List ℕ) (r s : Converted) → MakesTree text out r out₁ → MakesTree text out s out₂ → (r ≡ s) × (out₁ ≡ out₂)
+  pub one_text_to_tree : (out₁ out₂ : List ℕ) (r s : Result ℕ Refusal) → MakesTree text out r out₁ → MakesTree text out s out₂ → (r ≡ s) × (out₁ ≡ out₂)
   one_text_to_tree = one_conversion (Writes text) image_bytes (one_tree text) out
 
-  pub text_to_tree_exact : (r : Converted) (out' : List ℕ) → MakesTree text out r out'
-      → Exact no_of ConvertedIs.Refused r (Alone (FirstOf conversion_order (TreeCause text (length out)))) (NoneOf conversion_order (TreeCause text (length out)))
+  pub text_to_tree_exact : (r : Result ℕ Refusal) (out' : List ℕ) → MakesTree text out r out'
+      → Exact no_of r (Alone (FirstOf conversion_order (TreeCause text (length out)))) (NoneOf conversion_order (TreeCause text (length out)))
   text_to_tree_exact = exact (Writes text) image_bytes (one_tree text) out
 
 -- ---- tree to text
 module _ (bytes out : List ℕ) where
-  pub one_tree_to_text : (out₁ out₂ : List ℕ) (r s : Converted) → MakesText bytes out r out₁ → MakesText bytes out s out₂ → (r ≡ s) × (out₁ ≡ out₂)
+  pub one_tree_to_text : (out₁ out₂ : List ℕ) (r s : Result ℕ Refusal) → MakesText bytes out r out₁ → MakesText bytes out s out₂ → (r ≡ s) × (out₁ ≡ out₂)
   one_tree_to_text = one_conversion (Images bytes) text_of (one_image bytes) out
 
-  pub tree_to_text_exact : (r : Converted) (out' : List ℕ) → MakesText bytes out r out'
-      → Exact no_of ConvertedIs.Refused r (Alone (FirstOf conversion_order (TextCause bytes (length out)))) (NoneOf conversion_order (TextCause bytes (length out)))
+  pub tree_to_text_exact : (r : Result ℕ Refusal) (out' : List ℕ) → MakesText bytes out r out'
+      → Exact no_of r (Alone (FirstOf conversion_order (TextCause bytes (length out)))) (NoneOf conversion_order (TextCause bytes (length out)))
   tree_to_text_exact = exact (Images bytes) text_of (one_image bytes) out

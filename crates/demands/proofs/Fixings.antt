@@ -7,9 +7,8 @@ use mathlib.Core.Path.{◌∙◌, ◌≡◌, ap, ap₂, refl, subst, subst₂, s
 use Prim.Native.Nat.{◌<◌, ◌≤◌, ℕ}
 use native.Mathlib.Omega.{arith}
 use lib.ListN.{length}
-use Rattle.paper.specs.declared.Built.TheVariants as BuiltIs
-use Rattle.paper.specs.declared.Fixed.{Fixed}
-use Rattle.paper.specs.declared.Fixed.TheVariants as FixedIs
+use Rattle.std.specs.Prelude.{Ok, Result}
+use Rattle.paper.specs.declared.Refusal.{Refusal}
 use Rattle.paper.specs.declared.Head.{Head}
 use Rattle.paper.specs.declared.Record.{Record}
 use Rattle.paper.specs.Answers.{told}
@@ -18,7 +17,7 @@ use Rattle.paper.specs.Records.{listing}
 use Rattle.paper.specs.Refusals.{Reply, answer, fix, is_open, over, refused, target_after}
 use Rattle.laws.specs.Built.{BuiltSet}
 use Rattle.laws.specs.Fixings.{Allowed, DifferentPlaces, Enough, Entries, FixedAll, FixedFrom, Fixing, GoodSet, Lent, SameFixings, Suffices, as_used, as_used_first, call_fixes, fixings_of, narrowed, next}
-use Rattle.laws.proofs.Answers.{one_fixed}
+use Rattle.laws.proofs.Answers.{one_answer}
 use Rattle.laws.proofs.BuiltSets.{built_good}
 use Rattle.laws.proofs.FixGood.{fix_accepted, fix_good, fix_shrinks}
 use Rattle.laws.proofs.FixingsRight.{built_allowed, first_enough, fixings_right, used_enough}
@@ -42,7 +41,7 @@ left_after h table c = over (fixed_set h table c.fixing.place c.fixing.node).1 c
 record Gives (h : Head) (table : List Record) (c : Call) (fs : List Fixing) : Type 0 where
   accepted : fix h table (length c.work) c.fixing.place c.fixing.node (length c.target)
       ≡ answer (fixed_set h table c.fixing.place c.fixing.node)
-  answers : c.result ≡ FixedIs.Set (head_after h table c)
+  answers : c.result ≡ Ok (head_after h table c)
   leaves : c.target' ≡ left_after h table c
   good : GoodSet (head_after h table c) (left_after h table c)
   few : (head_after h table c).used ≤ h.used
@@ -54,7 +53,7 @@ gives : (h : Head) (table : List Record) (c : Call) (fs : List Fixing) → GoodS
     → Gives h table c fs
 gives h table c fs G ok long enough f = record {
   accepted = accepted;
-  answers = one_fixed c.result _ (f.answer ∙ ap (told (λ a. a.0)) accepted);
+  answers = one_answer c.result _ (f.answer ∙ ap (told (λ a. a.0)) accepted);
   leaves = f.written ∙ ap (λ (r : Reply (Head × List Record)). target_after r c.target) accepted;
   good = fix_good h table G c.fixing.place c.fixing.node stands_open there c.target;
   few = fix_shrinks h table G c.fixing.place c.fixing.node stands_open there;
@@ -76,7 +75,7 @@ follows : {h : Head} {table : List Record} {c : Call} {fs : List Fixing} → Giv
     → following c.result (λ number. Unit {0}) (λ head. P head c.target') ↔ P (head_after h table c) (left_after h table c)
 follows g P = (subst₂ Said g.answers g.leaves, subst₂ Said (sym g.answers) (sym g.leaves))
   where
-    Said : Fixed → List Record → Type 0
+    Said : Result Head Refusal → List Record → Type 0
     Said r t = following r (λ number. Unit {0}) (λ head. P head t)
 
 -- ---- one call after another
@@ -110,7 +109,7 @@ calls_are (c ∷ cs) h table G ok (long, enough, f, rest) =
     let g = gives h table c (fixings_in cs) G ok long enough f in
     let others = calls_are cs (head_after h table c) (left_after h table c) g.good g.allowed ((follows g (Made as_used cs)).0 rest) in (
       (long, enough, others.0),
-      ap₂ (λ (r : Fixed) (t : List Record). following r refused (λ head. last_set cs head t)) g.answers g.leaves
+      ap₂ (λ (r : Result Head Refusal) (t : List Record). following r refused (λ head. last_set cs head t)) g.answers g.leaves
           ∙ others.1
           ∙ ap (λ (r : Reply (Head × List Record)). next r c.target (call_fixes (lent_in cs))) (sym g.accepted),
     )
@@ -133,7 +132,7 @@ fixes_good cs h table G ok made =
 
 -- ---- a set that `build` left
 module _ (input work : List ℕ) (table : List Record) (h : Head) (work' : List ℕ) (table' : List Record)
-    (done : Builds input work table (BuiltIs.Set h) work' table') (cs : List Call) (different : DifferentPlaces h (fixings_in cs)) where
+    (done : Builds input work table (Ok h) work' table') (cs : List Call) (different : DifferentPlaces h (fixings_in cs)) where
   B : BuiltSet input h table'
   B = is_built input work table h work' table' done
 

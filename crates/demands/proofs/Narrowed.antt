@@ -1,23 +1,16 @@
 -- Demand 3 of the functions goes on to the questions: what count, row by number, member and project answer of the set that calls of
 -- `fix` left. First of any narrowed set, then from the bytes handed to `build`.
-use mathlib.Core.Bool.{true}
+use mathlib.Core.Bool.{Bool, false, true}
 use mathlib.Core.List.{List, [], map}
 use mathlib.Core.Logic.Iff
 use mathlib.Core.Logic.{◌↔◌}
 use mathlib.Core.Path.{◌∙◌, ◌≡◌, subst, sym}
 use Prim.Native.Nat.{◌-◌, ◌<◌, ◌≤◌, ℕ}
 use lib.ListN.{get_or, length}
-use Rattle.paper.specs.declared.Built.TheVariants as BuiltIs
-use Rattle.paper.specs.declared.Counted.{Counted}
-use Rattle.paper.specs.declared.Counted.TheVariants as CountedIs
+use Rattle.std.specs.Prelude.{Ok, Result}
+use Rattle.paper.specs.declared.Refusal.{Refusal}
 use Rattle.paper.specs.declared.Head.{Head}
-use Rattle.paper.specs.declared.Member.{Member}
-use Rattle.paper.specs.declared.Member.TheVariants as MemberIs
-use Rattle.paper.specs.declared.Projected.{Projected}
-use Rattle.paper.specs.declared.Projected.TheVariants as ProjectedIs
 use Rattle.paper.specs.declared.Record.{Record}
-use Rattle.paper.specs.declared.Written.{Written}
-use Rattle.paper.specs.declared.Written.TheVariants as WrittenIs
 use Rattle.paper.specs.Lists.{◌∈◌}
 use Rattle.paper.specs.Questions.{marks_of, question_work}
 use Rattle.paper.specs.Records.{listing}
@@ -63,7 +56,7 @@ module _ (cs : List Call) (h : Head) (table : List Record) (N : Narrows cs h tab
 
 -- ---- from the bytes: a build, calls of `fix` at different places, and a question on the set that the last of them left
 module _ (input work : List ℕ) (table : List Record) (h : Head) (work' : List ℕ) (table' : List Record)
-    (done : Builds input work table (BuiltIs.Set h) work' table') (cs : List Call) (different : DifferentPlaces h (fixings_in cs))
+    (done : Builds input work table (Ok h) work' table') (cs : List Call) (different : DifferentPlaces h (fixings_in cs))
     (made : Made as_used cs h table') (head : Head) (left : List Record) (last : last_set cs h table' ≡ answer (head, left)) where
   abbrev N : Narrows cs h table'
   N = fixes_right input work table h work' table' done cs different made
@@ -84,32 +77,32 @@ module _ (input work : List ℕ) (table : List Record) (h : Head) (work' : List 
       )
 
   -- count answers their number
-  pub count_narrowed : (w w' : List ℕ) (r : Counted) → question_work head ≤ length w → Counts head left w r w'
-      → r ≡ CountedIs.Rows (length (narrowed (fixings_in cs) (listing h table')))
+  pub count_narrowed : (w w' : List ℕ) (r : Result ℕ Refusal) → question_work head ≤ length w → Counts head left w r w'
+      → r ≡ Ok (length (narrowed (fixings_in cs) (listing h table')))
   count_narrowed = say.counts
 
   -- row by number writes the entry of the list
-  pub row_narrowed : (w w' out out' : List ℕ) (k : ℕ) (r : Written) → question_work head ≤ length w
+  pub row_narrowed : (w w' out out' : List ℕ) (k : ℕ) (r : Result (Unit {0}) Refusal) → question_work head ≤ length w
       → k < length (narrowed (fixings_in cs) (listing h table')) → h.arity ≤ length out → Numbers head left w k out r w' out'
-      → (r ≡ WrittenIs.Row) × (out' ≡ over (get_or (narrowed (fixings_in cs) (listing h table')) k []) out)
+      → (r ≡ Ok tt) × (out' ≡ over (get_or (narrowed (fixings_in cs) (listing h table')) k []) out)
   row_narrowed w w' out out' k r enough below room =
       say.numbers w w' out out' k r enough below (subst (λ (n : ℕ). n ≤ length out) (sym fixed.arity) room)
 
   -- member says yes exactly to what is left of the accepted rows, whatever row it is given
-  pub member_narrowed : (w w' : List ℕ) (row : Row) (r : Member) → question_work head ≤ length w → Members head left w row r w'
-      → (r ≡ MemberIs.Listed) ↔ LeftOf (InAnswer input) (fixings_in cs) row
+  pub member_narrowed : (w w' : List ℕ) (row : Row) (r : Result Bool Refusal) → question_work head ≤ length w → Members head left w row r w'
+      → (r ≡ Ok true) ↔ LeftOf (InAnswer input) (fixings_in cs) row
   member_narrowed w w' row r enough c = Iff.trans (say.members w w' row r enough c) (narrowed_accepted row)
 
   -- and no to every other row that has an entry a place, none of them wrong
-  pub other_narrowed : (w w' : List ℕ) (row : Row) (r : Member) → question_work head ≤ length w → length row ≡ h.arity → (WrongEntry head row → ⊥)
-      → (LeftOf (InAnswer input) (fixings_in cs) row → ⊥) → Members head left w row r w' → r ≡ MemberIs.NotListed
+  pub other_narrowed : (w w' : List ℕ) (row : Row) (r : Result Bool Refusal) → question_work head ≤ length w → length row ≡ h.arity → (WrongEntry head row → ⊥)
+      → (LeftOf (InAnswer input) (fixings_in cs) row → ⊥) → Members head left w row r w' → r ≡ Ok false
   other_narrowed w w' row r enough long wrong none =
       say.others w w' row r enough (long ∙ sym fixed.arity) wrong (λ m. none ((narrowed_accepted row).0 m))
 
   -- project of a place that was not fixed marks exactly the nodes that stand there in what is left of some accepted row
-  pub project_narrowed : (w w' out out' : List ℕ) (place : ℕ) (r : Projected) → question_work head ≤ length w → 1 ≤ place → place ≤ h.arity
+  pub project_narrowed : (w w' out out' : List ℕ) (place : ℕ) (r : Result (Unit {0}) Refusal) → question_work head ≤ length w → 1 ≤ place → place ≤ h.arity
       → (place ∈ map (λ f. f.place) (fixings_in cs) → ⊥) → h.nodes ≤ length out → Projects head left w place out r w' out'
-      → (r ≡ ProjectedIs.Marks) × (out' ≡ over (marks_of head left place) out)
+      → (r ≡ Ok tt) × (out' ≡ over (marks_of head left place) out)
       × ((n : ℕ) → n < h.nodes
       → (get_or (marks_of head left place) n 0 ≡ 1) ↔ ((row : Row) × LeftOf (InAnswer input) (fixings_in cs) row × (get_or row (place - 1) blank ≡ n)))
   project_narrowed w w' out out' place r enough from to other room c =

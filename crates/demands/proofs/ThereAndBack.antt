@@ -6,10 +6,10 @@ use Prim.Native.Nat.{ℕ, ◌≤◌}
 use native.Mathlib.Omega.{arith}
 use lib.ListN.{drop, length, take}
 use lib.Seq.{take-append_seam}
-use Rattle.paper.specs.declared.Built.{Built}
-use Rattle.paper.specs.declared.Built.TheVariants as BuiltIs
-use Rattle.paper.specs.declared.Converted.{Converted}
-use Rattle.paper.specs.declared.Converted.TheVariants as ConvertedIs
+use Rattle.std.specs.Prelude.{Ok, Result}
+use Rattle.paper.specs.declared.Head.{Head}
+use Rattle.paper.specs.declared.Refusal.{Refusal}
+use Rattle.paper.specs.declared.StreamRefusal.{StreamRefusal}
 use Rattle.paper.specs.declared.Record.{Record}
 use Rattle.paper.specs.Answers.{no_of, no_of_stream, says_built, says_converted, told}
 use Rattle.paper.specs.BracketedText.{Writes}
@@ -19,7 +19,7 @@ use Rattle.paper.specs.Image.{image_bytes}
 use Rattle.paper.specs.Refusals.{No, Reply, answer, build, no, number_in, output_after, over, refused}
 use Rattle.paper.specs.Stream.{records_of, tree_records}
 use Rattle.paper.specs.WrittenTree.{WrittenTree}
-use Rattle.laws.proofs.Answers.{one_converted}
+use Rattle.laws.proofs.Answers.{one_answer}
 use Rattle.laws.proofs.Replies.{answer_inj, refused_inj, refused_not_answer}
 use Rattle.writings.proofs.CanonicalTexts.{canonical_writes, text_short}
 use Rattle.writings.proofs.ImageTrees.{image_short}
@@ -40,7 +40,7 @@ module _ (Of : WrittenTree → Type 0) (result : WrittenTree → List ℕ) (out 
     of_tree : Of tree
     written : bytes ≡ result tree
 
-  the_answer : (n : ℕ) (out' : List ℕ) → Converts (Conversion Of result (length out)) out (ConvertedIs.Bytes n) out' → Answer (take n out')
+  the_answer : (n : ℕ) (out' : List ℕ) → Converts (Conversion Of result (length out)) out (Ok n) out' → Answer (take n out')
   the_answer n out' c = go c.reply c.right c.answer c.written
     where
       go : (reply : Reply (List ℕ)) → Conversion Of result (length out) reply → answer n ≡ told length reply → out' ≡ output_after reply out
@@ -57,8 +57,8 @@ module _ (Of : WrittenTree → Type 0) (result : WrittenTree → List ℕ) (out 
       }
 
   -- an output that no result is longer than is never refused
-  roomy : ((w : WrittenTree) → Of w → length (result w) ≤ length out) → (r : Converted) (out' : List ℕ)
-      → Converts (Conversion Of result (length out)) out r out' → Returns no_of ConvertedIs.Refused r (no 10) → ⊥
+  roomy : ((w : WrittenTree) → Of w → length (result w) ≤ length out) → (r : Result ℕ Refusal) (out' : List ℕ)
+      → Converts (Conversion Of result (length out)) out r out' → Returns no_of r (no 10) → ⊥
   roomy fits r out' c (why, e, number) =
       go c.reply c.right ((told_refused length c.reply (no 10)).0 (sym c.answer ∙ ap says_converted e ∙ ap refused number))
     where
@@ -69,40 +69,40 @@ module _ (Of : WrittenTree → Type 0) (result : WrittenTree → List ℕ) (out 
 
 -- where there is a tree, and room, its result is what is answered
 is_answered : (Of : WrittenTree → Type 0) (result : WrittenTree → List ℕ) → ((v w : WrittenTree) → Of v → Of w → v ≡ w)
-    → (out : List ℕ) (w : WrittenTree) → Of w → length (result w) ≤ length out → (r : Converted) (out' : List ℕ)
-    → Converts (Conversion Of result (length out)) out r out' → (r ≡ ConvertedIs.Bytes (length (result w))) × (out' ≡ over (result w) out)
+    → (out : List ℕ) (w : WrittenTree) → Of w → length (result w) ≤ length out → (r : Result ℕ Refusal) (out' : List ℕ)
+    → Converts (Conversion Of result (length out)) out r out' → (r ≡ Ok (length (result w))) × (out' ≡ over (result w) out)
 is_answered Of result one_of_lem out w g fits r out' c =
     let e : c.reply ≡ answer (result w) = one_right Of result one_of_lem (length out) c.reply (answer (result w)) c.right (the_result g fits) in (
-      one_converted r (ConvertedIs.Bytes (length (result w))) (c.answer ∙ ap (told length) e),
+      one_answer r (Ok (length (result w))) (c.answer ∙ ap (told length) e),
       c.written ∙ ap (λ x. output_after x out) e,
     )
 
 -- ---- there and back
 -- text, binary, text: the canonical text of the tree that was written
-pub text_binary_text : (text tree tree' : List ℕ) (n : ℕ) → MakesTree text tree (ConvertedIs.Bytes n) tree'
+pub text_binary_text : (text tree tree' : List ℕ) (n : ℕ) → MakesTree text tree (Ok n) tree'
     → (w : WrittenTree) × Writes text w
-    × ((out : List ℕ) (r : Converted) (out' : List ℕ) → MakesText (take n tree') out r out' → length (text_of w) ≤ length out
-    → (r ≡ ConvertedIs.Bytes (length (text_of w))) × (out' ≡ over (text_of w) out))
+    × ((out : List ℕ) (r : Result ℕ Refusal) (out' : List ℕ) → MakesText (take n tree') out r out' → length (text_of w) ≤ length out
+    → (r ≡ Ok (length (text_of w))) × (out' ≡ over (text_of w) out))
 text_binary_text text tree tree' n c =
     let a = the_answer (Writes text) image_bytes tree n tree' c in
     let image : Images (take n tree') a.tree = record { allowed = writes_allowed text a.tree a.of_tree; image = sym a.written } in
     (a.tree, a.of_tree, λ out r out' d fits. is_answered (Images (take n tree')) text_of (one_image (take n tree')) out a.tree image fits r out' d)
 
 -- binary, text, binary: the same bytes
-pub binary_text_binary : (bytes text text' : List ℕ) (n : ℕ) → MakesText bytes text (ConvertedIs.Bytes n) text'
-    → (out : List ℕ) (r : Converted) (out' : List ℕ) → MakesTree (take n text') out r out' → length bytes ≤ length out
-    → (r ≡ ConvertedIs.Bytes (length bytes)) × (out' ≡ over bytes out)
+pub binary_text_binary : (bytes text text' : List ℕ) (n : ℕ) → MakesText bytes text (Ok n) text'
+    → (out : List ℕ) (r : Result ℕ Refusal) (out' : List ℕ) → MakesTree (take n text') out r out' → length bytes ≤ length out
+    → (r ≡ Ok (length bytes)) × (out' ≡ over bytes out)
 binary_text_binary bytes text text' n c out r out' d fits =
     let a = the_answer (Images bytes) text_of text n text' c in
     let same : image_bytes a.tree ≡ bytes = a.of_tree.image in
     let writes : Writes (take n text') a.tree = subst (λ t. Writes t a.tree) (sym a.written) (canonical_writes a.tree a.of_tree.allowed) in
     let (told-bytes, left) = is_answered (Writes (take n text')) image_bytes (one_tree (take n text')) out a.tree writes (rw same fits) r out' d in
-    (told-bytes ∙ ap (λ x. ConvertedIs.Bytes (length x)) same, left ∙ ap (λ x. over x out) same)
+    (told-bytes ∙ ap (λ x. Ok (length x)) same, left ∙ ap (λ x. over x out) same)
 
 -- a tree that was typed is one that `build` reads, with any query behind it that begins with none of the tree's kinds: never 1 or 2
-pub typed_tree_built : (text tree tree' : List ℕ) (n : ℕ) → MakesTree text tree (ConvertedIs.Bytes n) tree' → (query : List ℕ)
-    → tree_records (records_of query) ≡ [] → (work work' : List ℕ) (table table' : List Record) (r : Built)
-    → Builds (take n tree' ++ query) work table r work' table' → (m : No) → Returns no_of_stream BuiltIs.Refused r m → 3 ≤ number_in m
+pub typed_tree_built : (text tree tree' : List ℕ) (n : ℕ) → MakesTree text tree (Ok n) tree' → (query : List ℕ)
+    → tree_records (records_of query) ≡ [] → (work work' : List ℕ) (table table' : List Record) (r : Result Head StreamRefusal)
+    → Builds (take n tree' ++ query) work table r work' table' → (m : No) → Returns no_of_stream r m → 3 ≤ number_in m
 typed_tree_built text tree tree' n c query begins work work' table table' r d m (why, e, number) =
     let a = the_answer (Writes text) image_bytes tree n tree' c in
     typed_never_refused a.tree (writes_allowed text a.tree a.of_tree) query begins (length work) (length table) m
@@ -111,10 +111,10 @@ typed_tree_built text tree tree' n c query begins work work' table table' r d m 
     (sym d.answer ∙ ap says_built e ∙ ap refused number))
 
 -- ---- outputs that always suffice
-pub tree_room : (text out : List ℕ) → 8190 ≤ length out → (r : Converted) (out' : List ℕ) → MakesTree text out r out'
-    → Returns no_of ConvertedIs.Refused r (no 10) → ⊥
+pub tree_room : (text out : List ℕ) → 8190 ≤ length out → (r : Result ℕ Refusal) (out' : List ℕ) → MakesTree text out r out'
+    → Returns no_of r (no 10) → ⊥
 tree_room text out long = roomy (Writes text) image_bytes out (λ w g. omega (arith, image_short w (writes_allowed text w g)))
 
-pub text_room : (bytes out : List ℕ) → 8188 ≤ length out → (r : Converted) (out' : List ℕ) → MakesText bytes out r out'
-    → Returns no_of ConvertedIs.Refused r (no 10) → ⊥
+pub text_room : (bytes out : List ℕ) → 8188 ≤ length out → (r : Result ℕ Refusal) (out' : List ℕ) → MakesText bytes out r out'
+    → Returns no_of r (no 10) → ⊥
 text_room bytes out long = roomy (Images bytes) text_of out (λ w g. omega (arith, text_short w g.allowed))

@@ -8,10 +8,8 @@ use mathlib.Core.Path.{◌≡◌, ap, refl, subst, sym}
 use Prim.Native.Nat.{◌<◌, ◌≤◌, ℕ}
 use native.Mathlib.Omega.{arith}
 use lib.ListN.{replicate}
-use Rattle.paper.specs.declared.Built.TheVariants as BuiltIs
-use Rattle.paper.specs.declared.Counted.{Counted}
-use Rattle.paper.specs.declared.Counted.TheVariants as CountedIs
-use Rattle.paper.specs.declared.Fixed.TheVariants as FixedIs
+use Rattle.std.specs.Prelude.{Ok, Result}
+use Rattle.paper.specs.declared.Refusal.{Refusal}
 use Rattle.paper.specs.declared.Head.{Head}
 use Rattle.paper.specs.declared.Record.{Record}
 use Rattle.paper.specs.Answers.{told}
@@ -44,7 +42,7 @@ head = head_from input
 abbrev table : List Record
 table = over (made_from input) blanks
 
-built : Builds input (replicate 48 7) blanks (BuiltIs.Set head) (replicate 48 0) table
+built : Builds input (replicate 48 7) blanks (Ok head) (replicate 48 0) table
 built = record { answer = refl; worked = refl; written = refl }
 
 -- ---- the two calls
@@ -54,7 +52,7 @@ call_on h source f = record {
   fixing = f;
   work = replicate 13 7;
   target = blanks;
-  result = FixedIs.Set (fixed_set h source f.place f.node).0;
+  result = Ok (fixed_set h source f.place f.node).0;
   work' = over (replicate h.used 0) (replicate 13 7);
   target' = over (fixed_set h source f.place f.node).1 blanks;
 }
@@ -114,7 +112,7 @@ made = (
 )
 
 -- ---- a count of what is left
-pub counted_one : (w w' : List ℕ) (r : Counted) → Counts last two.target' w r w' → r ≡ CountedIs.Rows 1
+pub counted_one : (w w' : List ℕ) (r : Result ℕ Refusal) → Counts last two.target' w r w' → r ≡ Ok 1
 counted_one w w' r c =
     count_narrowed input (replicate 48 7) blanks head (replicate 48 0) table built (one ∷ two ∷ []) different made last two.target' refl w w' r
     (omega arith) c

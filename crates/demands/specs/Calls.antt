@@ -1,10 +1,9 @@
 -- Calls of `fix`, one after another, as a program makes them: each with the buffers lent to it and with what it gave, which is known
 -- only by its contract.
-use Rattle.std.specs.Prelude.{List, [], ◌∷◌, map, ◌≡◌, ℕ, ◌≤◌, length}
-use Rattle.paper.specs.declared.Fixed.{Fixed}
-use Rattle.paper.specs.declared.Fixed.TheVariants as FixedIs
+use Rattle.std.specs.Prelude.{Err, Ok, Result, List, [], ◌∷◌, map, ◌≡◌, ℕ, ◌≤◌, length}
 use Rattle.paper.specs.declared.Head.{Head}
 use Rattle.paper.specs.declared.Record.{Record}
+use Rattle.paper.specs.declared.Refusal.{Refusal}
 use Rattle.paper.specs.Answers.{no_of}
 use Rattle.paper.specs.Questions.{question_work}
 use Rattle.paper.specs.Records.{listing}
@@ -18,7 +17,7 @@ pub record Call : Type 0 where
   pub work : List ℕ
   pub target : List Record
   -- what it gave
-  pub result : Fixed
+  pub result : Result Head Refusal
   pub work' : List ℕ
   pub target' : List Record
 
@@ -26,9 +25,9 @@ abbrev pub fixings_in : List Call → List Fixing
 fixings_in cs = map (λ c. c.fixing) cs
 
 -- what follows a result: of what says no, if it was refused, or of the head
-abbrev pub following {ℓ} : {A : Type ℓ} → Fixed → (No → A) → (Head → A) → A
-following (FixedIs.Refused r) stop go = stop (no_of r)
-following (FixedIs.Set h) stop go = go h
+abbrev pub following {ℓ} : {A : Type ℓ} → Result Head Refusal → (No → A) → (Head → A) → A
+following (Err r) stop go = stop (no_of r)
+following (Ok h) stop go = go h
 
 -- each call is made on the set that the one before it answered and left in its target; its target has so many entries, and its work
 -- is what the paper asks for. Behind a refusal nothing is said

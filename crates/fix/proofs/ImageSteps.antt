@@ -16,7 +16,7 @@ use Rattle.paper.specs.Records.{blank_entry, product_of, single_of, union_of}
 use Rattle.paper.specs.Sound.{entry}
 use Rattle.laws.proofs.Lists.{or_cases, or_left, or_right, through_take}
 use Rattle.laws.proofs.Shaped.{last_or}
-use Rattle.fix.specs.Sets.{Record, Set, at, empty, set_number, unit}
+use Rattle.fix.specs.Images.{Record, Set, at, empty, set_number, unit}
 
 -- ---- what is made from a table
 -- at most one record more, and a set at hand; none where that set is not the record behind the table

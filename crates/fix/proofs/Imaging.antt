@@ -1,143 +1,118 @@
--- The first pass: what holds before each turn, of the state and the work that the pass began with and of those now. It holds at the start, a turn
--- keeps it, and at the end it is what the pass promises.
-use mathlib.Core.Bool.{Bool, ◌||◌, cond, false, true, true≢false}
+-- The first pass: what holds before each record. It holds at the start, a record keeps it, and at the end it is what the pass promises.
+use mathlib.Core.Bool.{Bool, ◌||◌, false, true, true≢false}
 use mathlib.Core.List.{List}
 use mathlib.Core.Logic.{⊎_elim}
-use mathlib.Core.Path.{◌∙◌, ◌≡◌, ap, refl, subst, subst₂, sym}
-use Prim.Native.Nat.{◌+◌, ◌-◌, ◌<◌, suc, ℕ}
+use mathlib.Core.Path.{◌∙◌, ◌≡◌, ap, refl, subst, sym}
+use Prim.Native.Nat.{◌+◌, ◌<◌, ◌≤◌, suc, ℕ}
 use native.Mathlib.Numerals.{add-one}
 use native.Mathlib.Omega.{arith}
-use lib.ListN.{drop, get_or, length-set, set, take}
+use lib.ListN.{drop, get_or, length, length-set, set, take}
 use lib.Seq.{drop-set-lt, get_or-set_other, get_or-set_same}
-use Rattle.laws.proofs.Lists.{which}
+use Rattle.std.specs.Prelude.{Result, Ok, Err}
 use Rattle.laws.proofs.Shaped.{last_or}
+use Rattle.paper.specs.declared.Refusal.{Refusal}
+use Rattle.paper.specs.declared.Refusal.TheVariants.{UnitTwice}
 use Rattle.paper.specs.Questions.{unit_twice}
 use Rattle.paper.specs.Sound.{entry}
-use Rattle.table.proofs.Sets.{number_set}
-use Rattle.fix.specs.Sets.{Image, Makes, Record, empty, new_in, set_number}
-use Rattle.fix.specs.States.{State, passed, stopped}
-use Rattle.fix.specs.Turns.{Imaged, image_at, twice_in}
-use Rattle.fix.specs.Passes.{ImagesDone, Ready, images_to}
+use Rattle.table.specs.declared.made.Made.{Made}
+use Rattle.table.specs.Made.{Makes, after}
+use Rattle.fix.specs.Images.{Fixing, Record, Set, empty, image_with, operands_in, set_number, twice_in}
+use Rattle.fix.specs.Passes.{Fitting, Imaged, images, new_records}
 use Rattle.fix.proofs.ImageSteps.{image_stays, twice_next, twice_stays, twice_at}
-use Rattle.fix.proofs.Making.{length_new}
-use Rattle.fix.proofs.OneRecord.{HasImages, Standing, all_passed, below, first_at, left, next_image, next_records, not_stopped}
-use Rattle.fix.proofs.OneRecord.{running, stands_first, stands_next, twice_is}
+use Rattle.fix.proofs.OneRecord.{HasImages, all_of, few_made, next_image, next_records, twice_is}
 
--- ---- before each turn
--- whether one of the first k records is a union of unit and unit
-abbrev twice_to : List Record → State → ℕ → Bool
-twice_to source s k = unit_twice (images_to s source s.used) (take k source)
+-- the images of the records before it stand in the work, and none of them is a union of unit and unit
+pub record Before (f : Fixing) (used : List Record) (first : List ℕ) (k count : ℕ) (work : List ℕ) : Type 0 where
+  pub fits : Fitting used work
+  pub made : count ≡ length (new_records f (take k used))
+  pub has : HasImages f used k work
+  pub rest : drop (length used) work ≡ drop (length used) first
+  pub none : unit_twice (images f used) (take k used) ≡ false
 
--- none of the records passed is; or the pass has stopped at one that is
-pub record Before (source : List Record) (s : State) (first : List ℕ) (t : State) (work : List ℕ) : Type 0 where
-  pub stand : Standing source s t work
-  pub rest : drop s.used work ≡ drop s.used first
-  pub none : twice_to source s t.at ≡ false
-  pub stops : t.twice ≡ true → twice_to source s s.used ≡ true
+module _ {f : Fixing} {used : List Record} {first : List ℕ} {k count : ℕ} {work : List ℕ} (now : Before f used first k count work) where
+  -- ---- behind the last record
+  pub ended : k ≡ length used → Imaged f used first (Ok tt) work
+  ended end = record {
+    rest = now.rest;
+    twice = rw none_at_all refl;
+    found = λ _ i l. now.has i (omega (arith, l, end)) ∙ ap (λ (all : List Record). set_number (get_or (images f all) i empty)) whole;
+  }
+    where
+      whole : take k used ≡ used
+      whole = ap (λ (m : ℕ). take m used) end ∙ all_of used
 
-pub starts : (source : List Record) (s : State) (work : List ℕ) → Ready source s work → Before source s work s work
-starts source s work ready = record {
-  stand = stands_first ready;
-  rest = refl;
-  none = ap (twice_to source s) (first_at ready);
-  stops = λ f. absurd (true≢false (sym f ∙ not_stopped ready));
-}
+      none_at_all : unit_twice (images f used) used ≡ false
+      none_at_all = ap (unit_twice (images f used)) (sym whole) ∙ now.none
 
--- what falls: the records left, and one more until the pass has stopped
-abbrev pub turns_left : State → ℕ
-turns_left t = cond t.twice 0 (suc (t.used - t.at))
+  -- ---- at a record
+  module _ (below : k < length used) where
+    abbrev r : Record
+    r = entry used k
 
--- ---- after it
-module _ {source : List Record} {s : State} {first : List ℕ} {t : State} {work : List ℕ} (now : Before source s first t work) (going : t.going ≡ true) where
-  abbrev r : Record
-  r = entry source t.at
+    abbrev made : List Record
+    made = new_records f (take k used)
 
-  here : t.at < s.used
-  here = left now.stand going
+    abbrev left : Set
+    left = (operands_in r work).0
 
-  -- with this record
-  one_more : twice_to source s (t.at + 1) ≡ twice_in r work
-  one_more =
-      ap (twice_to source s) (add-one t.at)
-      ∙ twice_next (images_to s source s.used) source t.at (below now.stand going)
-      ∙ ap (λ (c : Bool). c || twice_at (images_to s source s.used) r) now.none
-      ∙ sym (twice_is now.stand going)
+    abbrev right : Set
+    right = (operands_in r work).1
 
-  abbrev pub After : State → List ℕ → Type 0
-  After u w = Before source s first u w × (turns_left u < turns_left t)
+    pub few : count ≤ k
+    few = omega (arith, now.made, few_made f used work k now.fits now.has below)
 
-  -- it stops at a union that has unit twice
-  halted : twice_in r work ≡ true → After (stopped t) work
-  halted e = (
-    record {
-      stand = record {
-        fit = now.stand.fit;
-        used = now.stand.used;
-        place = now.stand.place;
-        node = now.stand.node;
-        at_most = now.stand.at_most;
-        made = now.stand.made;
-        has = now.stand.has;
-        goes = refl;
-      };
+    -- with this record
+    one_more : unit_twice (images f used) (take (k + 1) used) ≡ twice_in r left right
+    one_more =
+        ap (λ (m : ℕ). unit_twice (images f used) (take m used)) (add-one k)
+        ∙ twice_next (images f used) used k below
+        ∙ ap (λ (c : Bool). c || twice_at (images f used) r) now.none
+        ∙ sym (twice_is f used work k now.fits now.has below)
+
+    -- the pass stops at a union that has unit twice
+    pub halted : twice_in r left right ≡ true → Imaged f used first (Err UnitTwice) work
+    halted e = record {
       rest = now.rest;
-      none = now.none;
-      stops = λ _. twice_stays (images_to s source s.used) source s.used (t.at + 1) (omega (arith, here)) (one_more ∙ e);
-    },
-    rw (running now.stand going) (omega arith),
-  )
-
-  -- or has one image more
-  module _ (x : Image) (makes : Makes (image_at t r work) t.made x) where
-    abbrev work' : List ℕ
-    work' = set work t.at x.set
-
-    has_next : HasImages source s (t.at + 1) work'
-    has_next i l = ⊎_elim old (λ e. subst Has (sym e) new) (last_or i t.at l)
+      twice = rw (ap (unit_twice (images f used)) (sym (all_of used))
+          ∙ twice_stays (images f used) used (length used) (k + 1) (omega (arith, below)) (one_more ∙ e)) refl;
+      found = λ f. absurd (no_image f);
+    }
       where
-        Has : ℕ → Type 0
-        Has j = get_or work' j 0 ≡ set_number (get_or (images_to s source (t.at + 1)) j empty)
+        is_err : Result (Unit {0}) Refusal → Bool
+        is_err (Err why) = true
+        is_err (Ok _) = false
 
-        old : i < t.at → Has i
-        old before =
-            get_or-set_other work t.at i x.set 0 (λ e. omega (arith, e, before))
-            ∙ now.stand.has i before
-            ∙ ap set_number (sym (image_stays (s.place - 1) s.node source (t.at + 1) t.at i (omega arith)
-            (omega (arith, here, now.stand.fit.there)) before))
+        no_image : Err UnitTwice ≡ Ok (tt {0}) → ⊥
+        no_image f = true≢false (ap is_err f)
 
-        new : Has t.at
-        new =
-            get_or-set_same work t.at x.set 0 (omega (arith, here, now.stand.fit.room))
-            ∙ sym (number_set x.set)
-            ∙ ap set_number (sym (next_image now.stand going x makes))
+    -- or has one image more
+    module _ (once : twice_in r left right ≡ false) (x : Made) (makes : Makes (image_with f r left right) x) where
+      pub onward : (n : ℕ) → n ≡ set_number (after x made).1 → (more : ℕ) → more ≡ length (after x made).0
+          → Before f used first (k + 1) more (set work k n)
+      onward n n_is more more_is = record {
+        fits = record {
+          room = omega (arith, now.fits.room, length-set work k n);
+          few = now.fits.few;
+          kinds = now.fits.kinds;
+          lower = now.fits.lower;
+        };
+        made = more_is ∙ ap length (sym (next_records f used work k now.fits now.has below x makes));
+        has = λ i l. ⊎_elim (old i) (λ e. subst Has (sym e) new) (last_or i k l);
+        rest = drop-set-lt (length used) work k n below ∙ now.rest;
+        none = one_more ∙ once;
+      }
+        where
+          Has : ℕ → Type 0
+          Has j = get_or (set work k n) j 0 ≡ set_number (get_or (images f (take (k + 1) used)) j empty)
 
-    onward : twice_in r work ≡ false → After (passed t x.count) work'
-    onward e = (
-      record {
-        stand =
-            stands_next now.stand going x.count (new_in x) (length_new x makes.few)
-            (next_records now.stand going x makes) work' (length-set work t.at x.set) has_next;
-        rest = drop-set-lt s.used work t.at x.set here ∙ now.rest;
-        none = one_more ∙ e;
-        stops = λ f. absurd (true≢false (sym f ∙ running now.stand going));
-      },
-      rw (running now.stand going) (omega (arith, here, now.stand.used)),
-    )
+          old : (i : ℕ) → i < k → Has i
+          old i before =
+              get_or-set_other work k i n 0 (λ e. omega (arith, e, before))
+              ∙ now.has i before
+              ∙ ap set_number (sym (image_stays f.index f.node used (k + 1) k i (omega arith) (omega (arith, below)) before))
 
-  pub step : {t' : State} {work' : List ℕ} → Imaged t r work t' work' → After t' work'
-  step told = ⊎_elim
-      (λ e. subst₂ After (sym (told.stops e).0) (sym (told.stops e).1) (halted e))
-      (λ e. let turn = told.goes e in subst₂ After (sym turn.state) (sym turn.written) (onward turn.image turn.makes e))
-      (which (twice_in r work))
-
--- ---- the whole pass
-pub stops : {source : List Record} {s : State} {first : List ℕ} {t : State} {work : List ℕ} → Before source s first t work → t.going ≡ false
-    → ImagesDone source s first t work
-stops {source = source} {s = s} {t = t} {work = work} now ended = record {
-  rest = now.rest;
-  twice = ⊎_elim (λ e. e ∙ sym (now.stops e)) (λ e. e ∙ sym now.none ∙ ap (twice_to source s) (last e)) (which t.twice);
-  found = λ e. subst (λ (k : ℕ). HasImages source s k work) (last e) now.stand.has;
-}
-  where
-    last : t.twice ≡ false → t.at ≡ s.used
-    last = all_passed now.stand ended
+          new : Has k
+          new =
+              get_or-set_same work k n 0 (omega (arith, below, now.fits.room))
+              ∙ n_is
+              ∙ ap set_number (sym (next_image f used work k now.fits now.has below x makes))

@@ -1,7 +1,4 @@
-pub mod Sets
-pub mod States
-pub mod Turns
+pub mod Images
 pub mod Passes
-pub mod Start
 pub mod Answer
 pub mod Face

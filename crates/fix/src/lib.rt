@@ -1,23 +1,24 @@
 // Fixing a place at a node: a new set in a second table. Two passes over the records of the first one:
-// what each becomes, and then the new records. Both go upwards: operands have lower numbers, and the
-// new records keep the old order.
+// what each becomes, and then the new records (passes.rt). Both go upwards: operands have lower numbers,
+// and the new records keep the old order.
 #![tactic(auto)]
 
+ghost use Rattle.std.specs.Prelude.{◌≡◌, ◌≤◌, length};
+ghost use Rattle.paper.specs.Answers.{no_of, says};
+ghost use Rattle.paper.specs.Refusals.{unless};
+ghost use Rattle.laws.specs.QuestionCauses.{Sound};
+ghost use Rattle.sound.specs.Questions.{tests_of};
+ghost use Rattle.fix.specs.Answer.{Answers, ImageOf, head_tests, set_after};
 ghost use Rattle.fix.specs.Face.{Fixes};
-ghost use Rattle.fix.specs.Passes.{Ready, ImagesDone, MayRecord, RecordsDone};
 
-use crate::answer::finish;
-use crate::start::{after_images, begin, verdict};
-use crate::state::State;
-use crate::turn::{image_turn, record_turn};
-use paper::{Fixed, Head, Record};
-use table::RECORD_NUMBERS;
+use crate::image::{Fixing, image_in};
+use crate::passes::{images, records};
+use paper::{Head, Record, Refusal, Set};
+use places::{is_open, without_place};
+use sound::{clear, weigh};
 
-mod answer;
 mod image;
-mod start;
-mod state;
-mod turn;
+mod passes;
 
 // The set with the place fixed at the node, in the target. A refusal changes nothing there, so the
 // first pass finds refusal 12 before the second writes anything.
@@ -28,60 +29,69 @@ pub fn fix(
     place: u16,
     node: u16,
     target: &mut [Record],
-) -> Fixed
+) -> Result<Head, Refusal>
     ensures { Fixes head source.now work.old place node target.old result work.new target.new }
 {
-    let w = sound::weigh(head, source, &mut *work);
-    let entries = target.len();
-    let v = verdict(w, head, place, node, entries);
-    let s = begin(v, place, node);
-    let t = images(source, s, &mut *work);
-    let u = after_images(v, t);
-    let second = begin(u, place, node);
-    // Room for the one record of a turn.
-    let mut batch: [u16; RECORD_NUMBERS] = [0; RECORD_NUMBERS];
-    let e = records(source, second, &mut *work, &mut *target, &mut batch);
-    finish(e, u, head, &mut *work)
+    weigh(head, source, work)?;
+    let fixed = answer(head, source, work, place, node, target);
+    clear(work, head.used as usize);
+    fixed
 }
 
-// The first pass: the image of each record of the source, in the work, where it takes the place of the
-// weight. It ends behind the last used record, to which `at` rises by 1 a turn, or at a union of unit
-// and unit.
-fn images(source: &[Record], s: State, work: &mut [u64]) -> State
-    requires { Ready source.now s work.old }
-    ensures { ImagesDone source.now s work.old result work.new }
-{
-    let mut t = s;
-    while t.going {
-        let k = t.at;
-        let r = source[k];
-        t = image_turn(t, r, &mut *work);
-    }
-    t
-}
-
-// The second pass: the new records, in the target. It ends behind the last used record, to which `at`
-// rises by 1 a turn. A record goes into the target as numbers, by way of `batch`: only `table` writes
-// structs into a lent table.
-fn records(
+// The same of a set that is sound, with the weights or images left in the work.
+fn answer(
+    head: Head,
     source: &[Record],
-    s: State,
     work: &mut [u64],
+    place: u16,
+    node: u16,
     target: &mut [Record],
-    batch: &mut [u16],
-) -> State
-    requires { MayRecord source.now s work.old target.old batch.old }
-    ensures { RecordsDone source.now s work.old target.old result work.new target.new }
+) -> Result<Head, Refusal>
+    requires sound { Sound head source.now }
+    requires room { head.used ≤ length work.old }
+    ensures { Answers head source.now work.old place node target.old result work.new target.new }
 {
-    let mut t = s;
-    while t.going {
-        let k = t.at;
-        let r = source[k];
-        t = record_turn(t, r, &mut *work, &mut *batch);
-        // A turn that makes no record stores none: `count` is 0 then.
-        let from = t.from;
-        let count = t.count;
-        table::store(&mut *target, from, &*batch, count);
+    test(head, place, node, target.len())?;
+    let fixing = Fixing {
+        index: (place - 1) as usize,
+        node,
+    };
+    let used = &source[..head.used as usize];
+    images(used, fixing, work)?;
+    let made = records(used, fixing, work, target);
+    Ok(Head {
+        open_places: without_place(head.open_places, fixing.index),
+        used: made,
+        set: new_set(head.set, work),
+        ..head
+    })
+}
+
+// The tests 7, 8 and 6, as the paper orders them.
+fn test(head: Head, place: u16, node: u16, entries: usize) -> Result<(), Refusal>
+    ensures { says no_of result ≡ unless (tests_of (head_tests head place node entries)) tt }
+{
+    if !is_open(head, place) {
+        return Err(Refusal::Place);
     }
-    t
+    if head.nodes <= node {
+        return Err(Refusal::Node);
+    }
+    // The paper wants an entry for each record of the source, however few will be made.
+    if entries < head.used as usize {
+        return Err(Refusal::ShortTable);
+    }
+    Ok(())
+}
+
+// What the set of the head becomes: the image of its root. Empty stays what it is, and so would unit,
+// which has no open place and has been refused 7.
+fn new_set(set: Set, work: &[u64]) -> Set
+    requires { ImageOf set work.now }
+    ensures { result ≡ set_after work.now set }
+{
+    match set {
+        Set::Record(i) => image_in(work, i),
+        Set::Empty | Set::Unit => set,
+    }
 }

@@ -11,7 +11,7 @@ use Rattle.paper.specs.declared.Refusal.{Refusal}
 use Rattle.paper.specs.declared.Refusal.TheVariants.{LongInput, Node, NotSound, Place, RowLength, RowNumber, ShortOutput, ShortTable, ShortWork, Text, UnitTwice}
 use Rattle.paper.specs.declared.StreamRefusal.{StreamRefusal}
 use Rattle.paper.specs.declared.StreamRefusal.TheVariants.{ManyNodes, Other, Query, Tree, Twice}
-use Rattle.paper.specs.Answers.{no_of, no_of_stream, says, says_built, says_converted, says_counted, says_fixed, says_member, says_projected, says_written}
+use Rattle.paper.specs.Answers.{no_of, no_of_stream, says, says_built}
 use Rattle.paper.specs.Refusals.{No, Reply, answer, no, no_at, number_in, refused}
 
 -- what is said, read back, is the answer: so two answers that say the same are one
@@ -68,23 +68,10 @@ module _ {A E : Type 0} (said : E → No) (back : No → E) (reads : (e : E) →
   pub one_result : (a b : Result A E) → says said a ≡ says said b → a ≡ b
   one_result = told_apart (says said) result_of result_told
 
+-- of a question or a conversion
+pub one_answer : {A : Type 0} (a b : Result A Refusal) → says no_of a ≡ says no_of b → a ≡ b
+one_answer = one_result no_of refusal_of refusal_told
+
+-- of a build
 pub one_built : (a b : Result Head StreamRefusal) → says_built a ≡ says_built b → a ≡ b
 one_built = one_result no_of_stream stream_refusal_of stream_refusal_told
-
-pub one_counted : (a b : Result ℕ Refusal) → says_counted a ≡ says_counted b → a ≡ b
-one_counted = one_result no_of refusal_of refusal_told
-
-pub one_written : (a b : Result (Unit {0}) Refusal) → says_written a ≡ says_written b → a ≡ b
-one_written = one_result no_of refusal_of refusal_told
-
-pub one_member : (a b : Result Bool Refusal) → says_member a ≡ says_member b → a ≡ b
-one_member = one_result no_of refusal_of refusal_told
-
-pub one_projected : (a b : Result (Unit {0}) Refusal) → says_projected a ≡ says_projected b → a ≡ b
-one_projected = one_result no_of refusal_of refusal_told
-
-pub one_fixed : (a b : Result Head Refusal) → says_fixed a ≡ says_fixed b → a ≡ b
-one_fixed = one_result no_of refusal_of refusal_told
-
-pub one_converted : (a b : Result ℕ Refusal) → says_converted a ≡ says_converted b → a ≡ b
-one_converted = one_result no_of refusal_of refusal_told

@@ -1,25 +1,17 @@
--- Bytes put behind the first ones of a buffer: how many stand there then, and the buffer.
-use Rattle.std.specs.Prelude.{cond, List, [], ◌∷◌, ◌++◌, ◌≡◌, ℕ, ◌+◌, leb, length, take, drop}
+-- Bytes put behind a text for which there is so much room.
+use Rattle.std.specs.Prelude.{cond, List, [], ◌∷◌, ◌++◌, ℕ, ◌+◌, leb, length}
 use Rattle.paper.specs.Refusals.{No, no, no_at}
 use Rattle.lines.specs.Text.{number_text, refused_word, at_word}
 
--- all of the bytes, where the buffer has room for them, and what stands behind them stays; else none of them, and all stays
-unfoldable pub put : List ℕ → ℕ × List ℕ → ℕ × List ℕ
-put bytes s =
-    cond (leb (s.0 + length bytes) (length s.1))
-    (s.0 + length bytes, take s.0 s.1 ++ bytes ++ drop (s.0 + length bytes) s.1)
-    s
+-- all of the bytes, where they have room; else none of them, and all stays
+unfoldable pub put : ℕ → List ℕ → List ℕ → List ℕ
+put size bytes text = cond (leb (length text + length bytes) size) (text ++ bytes) text
 
 -- a word, a number and the end of the line, one after the other, each where there is room for it
-abbrev pub put_fact : List ℕ → ℕ → ℕ × List ℕ → ℕ × List ℕ
-put_fact word n s = put (10 ∷ []) (put (number_text n) (put word s))
+abbrev pub put_fact : ℕ → List ℕ → ℕ → List ℕ → List ℕ
+put_fact size word n text = put size (10 ∷ []) (put size (number_text n) (put size word text))
 
 -- the line of a refusal, so too
-abbrev pub put_refusal : No → ℕ × List ℕ → ℕ × List ℕ
-put_refusal (no n) s = put_fact refused_word n s
-put_refusal (no_at n p) s = put_fact at_word p (put (number_text n) (put refused_word s))
-
--- these bytes stand behind the first `at` of a buffer, and the end is told
-pub record Puts (bytes : List ℕ) (at : ℕ) (text : List ℕ) (end : ℕ) (text' : List ℕ) : Type 0 where
-  pub ends : end ≡ at + length bytes
-  pub stands : take end text' ≡ take at text ++ bytes
+abbrev pub put_refusal : ℕ → No → List ℕ → List ℕ
+put_refusal size (no n) text = put_fact size refused_word n text
+put_refusal size (no_at n p) text = put_fact size at_word p (put size (number_text n) (put size refused_word text))

@@ -1,87 +1,133 @@
-// Text behind the first `at` bytes of a buffer: a byte, a number, a line of a word and a number, the line of a refusal. Both programs
-// write with these. Each function answers how many bytes there are then. A word, a number or a byte that has no room is left out whole,
-// so none asks for anything; who has the room knows that all stands there (proofs/Putting.antt). Last, how both programs read.
+// Text in a buffer of fixed size: a byte, a number, a line of a word and a number, the line of a refusal, each put behind what stands
+// there. Both programs write with these. A word, a number or a byte that has no room is left out whole, so none asks for anything; who
+// has the room knows that all stands there (proofs/Putting.antt). Last, how both programs read and write.
 #![tactic(auto)]
 
-ghost use Rattle.std.specs.Prelude.{[], ◌∷◌, ◌≡◌, take};
-ghost use Rattle.std.specs.Io.KnownBytes.{Consumes};
+ghost use Rattle.std.specs.Prelude.{[], ◌∷◌, ◌≡◌, ◌+◌, ◌≤◌, length, take, OnOk};
+ghost use Rattle.std.specs.Io.KnownBytes.{Appends, Consumes};
 ghost use Rattle.io.specs.Counts.{IsPrefixLen};
 ghost use Rattle.paper.specs.Answers.{no_of_stream};
 ghost use Rattle.lines.specs.Put.{put, put_fact, put_refusal};
 ghost use Rattle.lines.specs.Text.{number_text};
 
-use paper::{Position, StreamRefusal};
-use std::io::Read;
+use paper::StreamRefusal;
+use std::io::{ErrorKind, Read, Write};
+use std::marker::Model;
 
 // The digits of a number below 2 to the power of 64, at most.
 pub const LONGEST_NUMBER: usize = 20;
 
-// Any bytes. The loop ends with the word.
-fn put_word(text: &mut [u8], at: usize, word: &[u8]) -> usize
-    ensures { put word.now (at, text.old) ≡ (result, text.new) }
-{
-    if text.len() < at {
-        return at;
-    }
-    if text.len() - at < word.len() {
-        return at;
-    }
-    let mut i = 0;
-    while i < word.len() {
-        text[at + i] = word[i];
-        i += 1;
-    }
-    at + word.len()
+// The line of a refusal, at most.
+pub const LONGEST_REFUSAL: usize = REFUSED.len() + LONGEST_NUMBER + AT.len() + LONGEST_NUMBER + 1;
+
+const REFUSED: &[u8] = b"refused ";
+
+const AT: &[u8] = b" at ";
+
+// A text of at most `SIZE` bytes, which stands in the value itself: nothing is allocated.
+#[derive(Drop)]
+pub struct Text<const SIZE: usize> {
+    buffer: [u8; SIZE],
+    length: usize,
 }
 
-// The end of a line, or a space.
-pub fn put_byte(text: &mut [u8], at: usize, byte: u8) -> usize
-    ensures { put (byte ∷ []) (at, text.old) ≡ (result, text.new) }
-{
-    if text.len() <= at {
-        return at;
+// A contract sees the bytes that were put.
+impl<const SIZE: usize> Model for Text<SIZE> {
+    ghost use Rattle.std.specs.Prelude.{List, ℕ, ◌≤◌, take};
+
+    ghost Value = { List ℕ };
+
+    ghost view = { λ text. take text.length text.buffer };
+
+    ghost invariant = { λ text. text.length ≤ SIZE };
+}
+
+impl<const SIZE: usize> Text<SIZE> {
+    pub fn new() -> Self
+        ensures { result ≡ [] }
+    {
+        Text {
+            buffer: [0; SIZE],
+            length: 0,
+        }
     }
-    text[at] = byte;
-    at + 1
-}
 
-// A number in decimal digits.
-pub fn put_number(text: &mut [u8], at: usize, n: u64) -> usize
-    ensures { put (number_text n) (at, text.old) ≡ (result, text.new) }
-{
-    let mut digits = [0u8; LONGEST_NUMBER];
-    let count = io::decimal(n, &mut digits);
-    put_word(&mut *text, at, &digits[..count])
-}
+    // How many more bytes have room.
+    pub fn room(&self) -> usize
+        ensures { result + length self.now ≡ SIZE }
+    {
+        SIZE - self.length
+    }
 
-// A word, a number and the end of the line.
-pub fn put_fact(text: &mut [u8], at: usize, word: &[u8], n: u64) -> usize
-    ensures { put_fact word.now n (at, text.old) ≡ (result, text.new) }
-{
-    let number = put_word(&mut *text, at, word);
-    let end = put_number(&mut *text, number, n);
-    put_byte(&mut *text, end, b'\n')
-}
+    pub fn as_slice(&self) -> &[u8]
+        ensures bytes { result.now ≡ self.now }
+        ensures fits { length result.now ≤ SIZE }
+    {
+        &self.buffer[..self.length]
+    }
 
-// The line of a refusal, from the start of the buffer: a program that refuses tells nothing else. Its number, and the position if it has
-// one.
-pub fn put_refusal(text: &mut [u8], why: StreamRefusal) -> usize
-    ensures { put_refusal (no_of_stream why) (0, text.old) ≡ (result, text.new) }
-{
-    let word = put_word(
-        &mut *text,
-        0,
-        &[b'r', b'e', b'f', b'u', b's', b'e', b'd', b' '],
-    );
-    let number = put_number(&mut *text, word, why.number() as u64);
-    match why.position() {
-        Position::At(at) => put_fact(&mut *text, number, &[b' ', b'a', b't', b' '], at as u64),
-        Position::None => put_byte(&mut *text, number, b'\n'),
+    pub fn clear(&mut self)
+        ensures { self.new ≡ [] }
+    {
+        self.length = 0;
+    }
+
+    // Any bytes.
+    fn put_word(&mut self, word: &[u8])
+        ensures { self.new ≡ put SIZE word.now self.old }
+    {
+        if word.len() <= self.room() {
+            let end = self.length + word.len();
+            let buffer = &mut self.buffer[..];
+            buffer[self.length..end].copy_from_slice(word);
+            self.length = end;
+        }
+    }
+
+    // The end of a line, or a space.
+    pub fn put_byte(&mut self, byte: u8)
+        ensures { self.new ≡ put SIZE (byte ∷ []) self.old }
+    {
+        self.put_word(&[byte]);
+    }
+
+    // A number in decimal digits.
+    pub fn put_number(&mut self, number: u64)
+        ensures { self.new ≡ put SIZE (number_text number) self.old }
+    {
+        let mut digits = [0u8; LONGEST_NUMBER];
+        let count = io::decimal(number, &mut digits);
+        self.put_word(&digits[..count]);
+    }
+
+    // A word, a number and the end of the line.
+    pub fn put_fact(&mut self, word: &[u8], number: u64)
+        ensures { self.new ≡ put_fact SIZE word.now number self.old }
+    {
+        self.put_word(word);
+        self.put_number(number);
+        self.put_byte(b'\n');
+    }
+
+    // The line of a refusal: its number, and the position if it has one.
+    // Not `write!`: its contract says which bytes it puts where it answers `Ok`, and never that it does, so that with room the line
+    // could not be shown to stand there, nor what stands there without.
+    pub fn put_refusal(&mut self, why: StreamRefusal)
+        ensures { self.new ≡ put_refusal SIZE (no_of_stream why) self.old }
+    {
+        self.put_word(REFUSED);
+        self.put_number(u64::from(why.number()));
+        match why.position() {
+            Some(at) => self.put_fact(AT, at as u64),
+            None => self.put_byte(b'\n'),
+        }
     }
 }
 
 // Reads until the buffer is full, the input ends or a read fails, and answers how many bytes stand at the buffer's start then: those
 // that the reader has given, if it is known what it gives.
+// A `while`, since each read takes as many bytes as it likes. std's `read_exact` does not say how many there were before the input's
+// end, and what reads to the end allocates.
 pub fn read_full<R: Read>(from: &mut R, buffer: &mut [u8]) -> usize
     ensures in_bounds { IsPrefixLen result buffer.new }
     ensures bytes { Consumes (R.remaining from.old) (R.remaining from.new) (take result buffer.new) }
@@ -94,4 +140,22 @@ pub fn read_full<R: Read>(from: &mut R, buffer: &mut [u8]) -> usize
         }
     }
     done
+}
+
+// Writes all of the bytes. That it failed is told in a line of its own, unless the reader went away.
+pub fn write_or_tell<W: Write, E: Write>(
+    out: &mut W,
+    bytes: &[u8],
+    errors: &mut E,
+    failure: &[u8],
+) -> std::io::Result<()>
+    ensures { OnOk result (Appends (W.contents out.old) (W.contents out.new) bytes.now) }
+{
+    let written = out.write_all(bytes);
+    if let Err(why) = &written
+        && why.kind() != ErrorKind::BrokenPipe
+    {
+        let _ = errors.write_all(failure);
+    }
+    written
 }

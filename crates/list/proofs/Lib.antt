@@ -1,8 +1,7 @@
 pub mod Putting
-pub mod Waiting
-pub mod Opening
-pub mod PageShape
 pub mod SoundRows
 pub mod LinesText
+pub mod Opening
 pub mod Telling
+pub mod Turning
 pub mod Answering

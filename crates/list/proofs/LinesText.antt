@@ -12,7 +12,7 @@ use Rattle.paper.specs.Lists.{◌∈◌}
 use Rattle.paper.specs.Questions.{count_of}
 use Rattle.paper.specs.Records.{listing}
 use Rattle.paper.specs.Row.{Row}
-use Rattle.row.proofs.RowNumbers.{row_listed}
+use Rattle.laws.proofs.Lists.{in_at}
 use Rattle.list.specs.Bounds.{longest_line, longest_opening}
 use Rattle.list.specs.Listing.{lines_to, set_text}
 use Rattle.lines.specs.Text.{fact_text}
@@ -44,7 +44,7 @@ lines_short rows four (suc n) h =
       arith,
       ap length (lines_more rows n h),
       length-append (lines_text (take n rows)) (line_text (get_or rows n [])),
-      line_short (get_or rows n []) (four (get_or rows n []) (row_listed rows n h)),
+      line_short (get_or rows n []) (four (get_or rows n []) (in_at [] rows n h)),
       lines_short rows four n (omega arith),
     )
 

@@ -1,81 +1,61 @@
--- The first lines, by what was built and counted; and a row's line, by whether the row was written.
-use mathlib.Core.Bool.{false, true, true≢false}
-use mathlib.Core.List.{List}
+-- What is put first: the two lines before the rows, or the line of a refusal. Nothing is handed on then, and all that is told so far waits.
+use mathlib.Core.List.{List, [], ◌++◌, append-nil}
 use mathlib.Core.Path.{◌∙◌, ◌≡◌, ap, refl, sym}
-use Prim.Native.Nat.{◌+◌, ◌≤◌, ℕ}
+use Prim.Native.Nat.{◌<◌, ◌^◌, ◌≤◌, ℕ}
 use native.Mathlib.Omega.{arith}
-use lib.Dec.{ltb}
-use lib.ListN.{length, take}
-use Rattle.paper.specs.declared.Built.{Built}
-use Rattle.paper.specs.declared.Built.TheVariants as BuiltIs
-use Rattle.paper.specs.declared.Counted.{Counted}
-use Rattle.paper.specs.declared.Counted.TheVariants as CountedIs
+use lib.ListN.{length, length-append, take}
 use Rattle.paper.specs.declared.Head.{Head}
-use Rattle.paper.specs.declared.Refusal.{Refusal}
-use Rattle.paper.specs.declared.StreamRefusal.{StreamRefusal}
-use Rattle.paper.specs.declared.Written.{Written}
-use Rattle.paper.specs.declared.Written.TheVariants as WrittenIs
-use Rattle.paper.specs.Answers.{no_of, no_of_stream, says_built, says_counted, says_written}
-use Rattle.list.specs.declared.handed.Handed.{Handed}
+use Rattle.paper.specs.declared.Record.{Record}
+use Rattle.paper.specs.Questions.{count_of}
+use Rattle.paper.specs.Refusals.{No, Reply, program, refused}
+use Rattle.paper.specs.Row.{Row}
+use Rattle.lines.specs.Put.{put_fact, put_refusal}
+use Rattle.lines.specs.Text.{fact_text, refusal_text}
+use Rattle.lines.proofs.Putting.{fact_short, puts_fact, puts_refusal, refusal_short}
+use Rattle.list.specs.Bounds.{largest_text, longest_opening}
 use Rattle.list.specs.declared.page.Page.{Page}
-use Rattle.list.specs.Handing.{nothing_handed}
-use Rattle.list.specs.Page.{Facts, Lines, MakesRoom, Opens, Refuses, RowThere, ended, lined, with_room}
-use Rattle.lines.specs.Put.{Puts}
-use Rattle.list.specs.Text.{line_text}
-use Rattle.list.proofs.Waiting.{room_either, room_failed, room_made}
+use Rattle.list.specs.Handing.{text_of}
+use Rattle.list.specs.Listing.{Lists, Tells, lines_to}
+use Rattle.list.specs.Text.{program_text, records_word, rows_word}
 
-pub opens_refused : (b : Built) (n : Counted) (why : StreamRefusal) (t : Page) (text : List ℕ) → b ≡ BuiltIs.Refused why
-    → Refuses (no_of_stream why) t text → Opens (says_built b) (says_counted n) t text
-opens_refused b n why t text e r = rw e r
+module _ (p : Page) (unhanded : p.handed.bytes ≡ 0) where
+  first_tells : (far : List ℕ) → p.text ≡ far → length far ≤ longest_opening → Tells far p
+  first_tells far stands few = record {
+    next = ap (λ (n : ℕ). take n (text_of p.handed.input.now) ++ p.text) unhanded ∙ stands;
+    bytes = omega (arith, unhanded, ap length stands);
+    countable = omega (arith, few);
+  }
 
-pub opens_uncounted : (b : Built) (n : Counted) (h : Head) (why : Refusal) (t : Page) (text : List ℕ) → b ≡ BuiltIs.Set h
-    → n ≡ CountedIs.Refused why → Refuses (no_of why) t text → Opens (says_built b) (says_counted n) t text
-opens_uncounted b n h why t text e f r = rw (e, f) r
+  -- the records made and the rows
+  pub facts_told : (h : Head) (table : List Record) (rows : ℕ) → rows ≡ count_of h table
+      → p.text ≡ put_fact largest_text rows_word rows (put_fact largest_text records_word h.used []) → Tells (lines_to h table 0) p
+  facts_told h table rows count stands =
+      first_tells (lines_to h table 0)
+      (stands ∙ ap (put_fact largest_text rows_word rows) (puts_fact largest_text records_word h.used [] (omega (arith, short)))
+      ∙ puts_fact largest_text rows_word rows (fact_text records_word h.used) (omega (arith, short, short_rows))
+      ∙ ap (λ (bytes : List ℕ). fact_text records_word h.used ++ bytes)
+      (ap (fact_text rows_word) count ∙ sym (append-nil (fact_text rows_word (count_of h table)))))
+      (omega (
+        arith,
+        short,
+        fact_short rows_word (count_of h table),
+        length-append (fact_text records_word h.used) (fact_text rows_word (count_of h table) ++ []),
+        length-append (fact_text rows_word (count_of h table)) [],
+      ))
+    where
+      short : length (fact_text records_word h.used) ≤ 29
+      short = fact_short records_word h.used
 
-pub opens_rows : (b : Built) (n : Counted) (h : Head) (rows bytes : ℕ) (handed : Handed) (text : List ℕ) → b ≡ BuiltIs.Set h
-    → n ≡ CountedIs.Rows rows → Facts h.used rows bytes text → handed ≡ nothing_handed
-    → Opens (says_built b) (says_counted n)
-    (record { number = 0; rows = rows; handed = handed; places = h.arity; bytes = bytes; going = ltb 0 rows }) text
-opens_rows b n h rows bytes handed text e f r none = rw (e, f, none) (r, refl)
+      short_rows : length (fact_text rows_word rows) ≤ 29
+      short_rows = omega (arith, fact_short rows_word rows)
 
--- ---- a row's line
-pub row_there : (places : ℕ) (w : Written) (row : List ℕ) → w ≡ WrittenIs.Row → RowThere places (says_written w) row
-    → (places ≤ 4) × (places ≤ length row)
-row_there places w row e h = rw e at h
-
-pub lines_refused : (t : Page) (w : Written) (why : Refusal) (row text text' : List ℕ) → w ≡ WrittenIs.Refused why
-    → Lines t (says_written w) row text (ended t) text'
-lines_refused t w why row text text' e = rw e refl
-
--- the page after the line, as the code makes it of the page before the line and of that with room
-abbrev after : Page → ℕ → Page → Page
-after t end next = record {
-  number = t.number + 1;
-  rows = next.rows;
-  handed = next.handed;
-  places = next.places;
-  bytes = end;
-  going = ltb (t.number + 1) t.rows;
-}
-
-after_is : (t : Page) (room end : ℕ) → after t end (with_room room t) ≡ lined (with_room room t) end
-after_is t room end = room_either (λ (u : Page). after t end u ≡ lined u end) room t refl refl
-
--- what `put_line` makes of a page and a row that was written
-module _ (t : Page) (w : Written) (written : w ≡ WrittenIs.Row) (row text : List ℕ) (next : Page) (text₁ : List ℕ)
-    (fine : t.handed.failed ≡ false) (M : MakesRoom t text next text₁) where
-  pub lines_put : next.handed.failed ≡ false → (end : ℕ) (text' : List ℕ) → Puts (line_text (take t.places row)) next.bytes text₁ end text'
-      → Lines t (says_written w) row text (after t end next) text'
-  lines_put still end text' p =
-      let room = room_made t text next text₁ fine M still in
-      rw written (record {
-        fails = λ failed. absurd (true≢false (sym failed ∙ still));
-        puts = λ _. (room.puts (line_text (take t.places row)) end text' p, ap (after t end) room.page ∙ after_is t (length text) end);
-      })
-
-  pub lines_failed : next.handed.failed ≡ true → (text' : List ℕ) → Lines t (says_written w) row text (ended next) text'
-  lines_failed failed text' =
-      rw written (record {
-        fails = λ _. (refl, omega (arith, room_failed t text next text₁ fine M failed));
-        puts = λ still. absurd (true≢false (sym failed ∙ still));
-      })
+  -- a refusal: it is all that is told
+  pub refusal_told : (w : No) → program p.handed.input.now ≡ refused w → p.text ≡ put_refusal largest_text w []
+      → Lists p.handed.input.now p
+  refusal_told w said stands =
+      let short = refusal_short w in record {
+        of = refl;
+        tells = first_tells (text_of p.handed.input.now)
+            (stands ∙ puts_refusal largest_text w [] (omega (arith, short)) ∙ ap (λ (a : Reply (ℕ × List Row)). program_text a) (sym said))
+            (omega (arith, short, ap (λ (a : Reply (ℕ × List Row)). length (program_text a)) said));
+      }

@@ -1,28 +1,19 @@
 -- The entries of a row put one after the other, and how many bytes they take.
 use mathlib.Core.List.{List, [], ◌++◌, ◌∷◌, append_assoc, append-nil}
-use mathlib.Core.Path.{◌∙◌, ◌≡◌, ap, refl, subst, sym}
+use mathlib.Core.Path.{◌∙◌, ◌≡◌, ap, refl, sym}
 use Prim.Native.Nat.{◌*◌, ◌+◌, ◌<◌, ◌≤◌, suc, zero, ℕ}
+use native.Mathlib.Numerals.{add-one}
 use native.Mathlib.Omega.{arith}
-use lib.ListN.{get_or, length, length-append, take}
-use Rattle.list.specs.Bounds.{longest_entry}
-use Rattle.list.specs.Text.{entries_from, entry_text, row_text}
-use Rattle.lines.specs.Put.{Puts}
+use lib.ListN.{get_or, length, length-append, length-take, take}
+use Rattle.list.specs.Bounds.{longest_entry, longest_line}
+use Rattle.list.specs.Text.{entries_from, entry_text, line_text, row_text}
+use Rattle.lines.specs.Put.{put}
 use Rattle.lines.specs.Text.{number_text}
 use Rattle.lines.proofs.Numbers.{number_short}
-use Rattle.lines.proofs.Putting.{puts_then}
-
-pub puts_first : (place n : ℕ) {at end : ℕ} {text text' : List ℕ} → place ≡ 0 → Puts (number_text n) at text end text'
-    → Puts (entry_text place n) at text end text'
-puts_first zero n e p = p
-puts_first (suc place) n e p = absurd (omega (arith, e))
-
-pub puts_later : (place n : ℕ) {at middle end : ℕ} {text text₁ text₂ : List ℕ} → (place ≡ 0 → ⊥) → Puts (32 ∷ []) at text middle text₁
-    → Puts (number_text n) middle text₁ end text₂ → Puts (entry_text place n) at text end text₂
-puts_later zero n e p q = absurd (e refl)
-puts_later (suc place) n e p q = puts_then p q
+use Rattle.lines.proofs.Putting.{puts}
 
 -- one entry more
-pub more_entries : (row : List ℕ) (place k : ℕ) → k < length row
+more_entries : (row : List ℕ) (place k : ℕ) → k < length row
     → entries_from place (take (suc k) row) ≡ entries_from place (take k row) ++ entry_text (place + k) (get_or row k 0)
 more_entries [] place k h = absurd (omega (arith, h))
 more_entries (x ∷ row) place zero h =
@@ -33,21 +24,26 @@ more_entries (x ∷ row) place (suc k) h =
     ∙ ap (λ (p : ℕ). entry_text place x ++ entries_from (suc place) (take k row) ++ entry_text p (get_or row k 0))
     (let z : suc place + k ≡ place + suc k = omega arith in z)
 
-pub puts_none : (at : ℕ) (text : List ℕ) → Puts [] at text at text
-puts_none at text = record { ends = omega arith; stands = sym (append-nil (take at text)) }
+-- an entry behind a text that has room for it
+module _ (size place n : ℕ) (text : List ℕ) (room : length text + longest_entry ≤ size) where
+  pub puts_first : place ≡ 0 → put size (number_text n) text ≡ text ++ entry_text place n
+  puts_first first = puts size (number_text n) text (omega (arith, room, number_short n)) ∙ ap (λ (k : ℕ). text ++ entry_text k n) (sym first)
+
+  pub puts_later : 0 < place → put size (number_text n) (put size (32 ∷ []) text) ≡ text ++ entry_text place n
+  puts_later later =
+      ap (put size (number_text n)) (puts size (32 ∷ []) text (omega (arith, room)))
+      ∙ puts size (number_text n) (text ++ (32 ∷ [])) (omega (arith, room, number_short n, length-append text (32 ∷ [])))
+      ∙ append_assoc text (32 ∷ []) (number_text n)
+      ∙ ap (λ (bytes : List ℕ). text ++ bytes) (as_entry place later)
+    where
+      as_entry : (k : ℕ) → 0 < k → 32 ∷ number_text n ≡ entry_text k n
+      as_entry zero none = absurd (omega (arith, none))
+      as_entry (suc k) some = refl
 
 -- an entry has at most 21 bytes
 pub entry_short : (place n : ℕ) → length (entry_text place n) ≤ longest_entry
 entry_short zero n = omega (arith, number_short n)
 entry_short (suc place) n = omega (arith, number_short n)
-
-pub puts_more : (row : List ℕ) (place : ℕ) {at middle end : ℕ} {text text₁ text₂ : List ℕ} → place < length row
-    → Puts (row_text (take place row)) at text middle text₁ → Puts (entry_text place (get_or row place 0)) middle text₁ end text₂
-    → Puts (row_text (take (suc place) row)) at text end text₂
-puts_more row place {at} {middle} {end} {text} {text₁} {text₂} h p q =
-    subst (λ (bytes : List ℕ). Puts bytes at text end text₂)
-    (sym (more_entries row 0 place h ∙ ap (λ (k : ℕ). row_text (take place row) ++ entry_text k (get_or row place 0)) (let z : 0 + place ≡ place = omega arith in z)))
-    (puts_then p q)
 
 -- a row has at most 21 bytes an entry
 entries_short : (row : List ℕ) (place : ℕ) → length (entries_from place row) ≤ longest_entry * length row
@@ -57,3 +53,27 @@ entries_short (x ∷ row) place =
 
 pub row_short : (row : List ℕ) → length (row_text row) ≤ longest_entry * length row
 row_short row = entries_short row 0
+
+-- an entry more in a row of at most four, behind what is put of it
+module _ (size : ℕ) (row text : List ℕ) (place : ℕ) (places : length row ≤ 4) (below : place < length row) (room : length text + longest_line ≤ size) where
+  abbrev so_far : List ℕ
+  so_far = text ++ row_text (take place row)
+
+  pub room_for_entry : length so_far + longest_entry ≤ size
+  room_for_entry =
+      omega (arith, room, places, below, length-append text (row_text (take place row)), row_short (take place row), length-take place row)
+
+  pub entry_more : so_far ++ entry_text place (get_or row place 0) ≡ text ++ row_text (take (place + 1) row)
+  entry_more =
+      append_assoc text (row_text (take place row)) (entry_text place (get_or row place 0))
+      ∙ ap (λ (bytes : List ℕ). text ++ bytes) (sym (ap (λ (k : ℕ). row_text (take k row)) (add-one place) ∙ more_entries row 0 place below ∙ z))
+    where
+      z : row_text (take place row) ++ entry_text (0 + place) (get_or row place 0) ≡ row_text (take place row) ++ entry_text place (get_or row place 0)
+      z = ap (λ (k : ℕ). row_text (take place row) ++ entry_text k (get_or row place 0)) (omega arith)
+
+-- the end of the line behind all entries
+pub puts_end : (size : ℕ) (row text : List ℕ) → length row ≤ 4 → length text + longest_line ≤ size
+    → put size (10 ∷ []) (text ++ row_text row) ≡ text ++ line_text row
+puts_end size row text places room =
+    puts size (10 ∷ []) (text ++ row_text row) (omega (arith, room, places, row_short row, length-append text (row_text row)))
+    ∙ append_assoc text (row_text row) (10 ∷ [])

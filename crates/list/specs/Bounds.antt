@@ -23,6 +23,6 @@ longest_line = longest_entries + 1
 abbrev pub longest_opening : ℕ
 longest_opening = 2 * longest_fact
 
--- the buffer where lines wait; so no sum of positions in it passes the largest number
+-- the buffer where lines wait
 abbrev pub largest_text : ℕ
 largest_text = 65536

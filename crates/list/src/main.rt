@@ -1,18 +1,19 @@
-// The listing program: a stream on standard input, its rows on standard output. First the listing, row after row, then the buffers
-// that it needs, then all that is told of an input, and last what is read. Everything that thinks is called from elsewhere: `building`
-// makes the set, `sound` counts it, `row` gives each row, and this crate turns them into text (text.rt) and hands it on (handed.rt).
+// The listing program: a stream on standard input, its rows on standard output. First the set of an input and its rows, then the listing,
+// row after row, and last what is read. Everything that thinks is called from elsewhere: `building` makes the set, `sound` counts it,
+// `row` gives each row, and this crate turns them into text (text.rt) and hands it on (page.rt, handed.rt).
 #![tactic(auto)]
 
-ghost use Rattle.std.specs.Prelude.{◌≡◌, ◌≤◌, length};
-ghost use Rattle.list.specs.Bounds.{longest_input, longest_line, largest_text};
+ghost use Rattle.std.specs.Prelude.{[], ◌≡◌, length, IfErr, IfOk, OnOk};
 ghost use Rattle.list.specs.Handing.{HandsOn};
-ghost use Rattle.list.specs.Listing.{head_of, Ready, Rows, Lists};
+ghost use Rattle.list.specs.Listing.{IsSet, Lists, Tells, lines_to};
+ghost use Rattle.paper.specs.Answers.{no_of_stream};
+ghost use Rattle.paper.specs.Refusals.{program, refused};
 
-use crate::handed::{Handed, has_failed};
-use crate::page::{Page, open_page, pass_on, put_line, refuse};
+use crate::handed::{Handed, Unwritten};
+use crate::page::Page;
 use lines::read_full;
 use paper::limits::MOST_PLACES;
-use paper::{Built, Flag, Head, Record, Refusal, Set, StreamRefusal};
+use paper::{Head, Record, Refusal, StreamRefusal};
 
 mod handed;
 mod page;
@@ -25,55 +26,51 @@ const TABLE_ENTRIES: usize = 2000;
 
 const WORK_NUMBERS: usize = 16384;
 
-// The buffer in which the text waits.
-const LARGEST_TEXT: usize = 65536;
-
-// The built set, or one that lists nothing. A refused build has no head, but the walk below is a straight line that counts in either
-// case: the count of this one is refused, and the refusal of the build, which comes first, is what is told (`open_page`).
-fn head_of(built: Built) -> Head
-    ensures { result ≡ head_of built }
-{
-    match built {
-        Built::Set(head) => head,
-        Built::Refused(_) => Head {
-            nodes: 0,
-            arity: 0,
-            open_places: Flag::NONE,
-            used: 0,
-            set: Set::Empty,
-        },
-    }
-}
-
-// The rows that are still to be told, a line each. The loop ends since each turn tells one more of the rows that were counted, or
-// finds that a write has failed. Four entries are room for any row, since the arity of a sound set is at most 4.
-fn rows(
-    rt: &HostRuntime,
-    head: Head,
-    table: &[Record],
-    s: Page,
-    work: &mut [u64],
-    text: &mut [u8],
+// The set of an input, in the table, and how many rows it has. An input that is too long is refused 14, before any byte of it is looked
+// at; a stream that asks for more than the table and the work have is refused 6 or 5. Any table would do, since `build` says what it
+// leaves.
+fn set_of(
     input: &[u8],
-) -> Page
-    requires { Ready head table.now s work.old text.old input.now }
-    ensures { Rows head table.now s text.old result text.new }
+    work: &mut [u64; WORK_NUMBERS],
+    table: &mut [Record; TABLE_ENTRIES],
+) -> Result<(Head, u64), StreamRefusal>
+    ensures set { IfOk result (λ set. IsSet input.now set.0 set.1 table.new (length work.new)) }
+    ensures refused { IfErr result (λ why. program input.now ≡ refused (no_of_stream why)) }
 {
-    let mut row: [u16; MOST_PLACES] = [0; MOST_PLACES];
-    let mut t = s;
-    while t.going {
-        let number = t.number;
-        let written = row::row(head, table, &mut *work, number, &mut row);
-        t = put_line(rt, t, written, &row, input, &mut *text);
+    if input.len() > LONGEST_INPUT {
+        return Err(Refusal::LongInput.into());
     }
-    t
+    let head = building::build(input, work, table)?;
+    let rows = sound::count(head, table, work)?;
+    Ok((head, rows))
 }
 
-// What is told of an input; its last part waits in the text. A stream that asks for more than the table and the work have is refused 6 or 5. The
-// table is lent blank, but any table would do, since `build` says what it leaves.
-fn list(rt: &HostRuntime, input: &[u8], text: &mut [u8]) -> Page
-    requires { (length input.now ≤ longest_input) × (longest_line ≤ length text.old) × (length text.old ≤ largest_text) }
-    ensures { Lists input.now result text.new }
+// The rows, a line each. Four entries are room for any row, since the arity of a sound set is at most 4; and each row by number that was
+// counted is answered.
+fn rows(
+    page: &mut Page,
+    head: Head,
+    rows: u64,
+    table: &[Record],
+    work: &mut [u64],
+) -> Result<(), Unwritten>
+    requires set { IsSet page.old.handed.input.now head rows table.now (length work.old) }
+    requires opened { Tells (lines_to head table.now 0) page.old }
+    ensures { OnOk result (Lists page.old.handed.input.now page.new) }
+{
+    let mut row = [0; MOST_PLACES];
+    for number in 0..rows {
+        row::row(head, table, work, number, &mut row).unwrap();
+        page.put_line(&row[..usize::from(head.arity)])?;
+    }
+    Ok(())
+}
+
+// What is told of an input; its last part waits in the page.
+fn list(page: &mut Page) -> Result<(), Unwritten>
+    requires unhanded { page.old.handed.bytes ≡ 0 }
+    requires empty { page.old.text ≡ [] }
+    ensures { OnOk result (Lists page.old.handed.input.now page.new) }
 {
     let blank = Record {
         kind: 0,
@@ -82,47 +79,35 @@ fn list(rt: &HostRuntime, input: &[u8], text: &mut [u8]) -> Page
         right: 0,
         flag: 0,
     };
-    let mut table: [Record; TABLE_ENTRIES] = [blank; TABLE_ENTRIES];
-    let mut work: [u64; WORK_NUMBERS] = [0; WORK_NUMBERS];
-    let built = building::build(input, &mut work, &mut table);
-    let head = head_of(built);
-    let counted = sound::count(head, &table, &mut work);
-    let s = open_page(built, counted, &mut *text);
-    rows(rt, head, &table, s, &mut work, &mut *text, input)
+    let mut table = [blank; TABLE_ENTRIES];
+    let mut work = [0; WORK_NUMBERS];
+    match set_of(page.handed.input(), &mut work, &mut table) {
+        Ok((head, count)) => {
+            page.text.put_fact(b"records ", u64::from(head.used));
+            page.text.put_fact(b"rows ", count);
+            rows(page, head, count, &table, &mut work)
+        }
+        Err(why) => {
+            page.text.put_refusal(why);
+            Ok(())
+        }
+    }
 }
 
-// An input that is too long is refused 14, before any byte of it is looked at.
-fn answer(rt: &HostRuntime, input: &[u8], text: &mut [u8]) -> Page
-    requires { (longest_line ≤ length text.old) × (length text.old ≤ largest_text) }
-    ensures { Lists input.now result text.new }
+// All that is told of an input, handed on. What waits when the last row is told is handed on here.
+fn tell<'a>(rt: &'a HostRuntime, input: &'a [u8]) -> Result<Handed<'a>, Unwritten>
+    ensures { IfOk result (HandsOn input.now) }
 {
-    if input.len() > LONGEST_INPUT {
-        return refuse(StreamRefusal::Other(Refusal::LongInput), &mut *text);
-    }
-    list(rt, input, &mut *text)
-}
-
-// All that is told of an input, handed on. What waits when the last row is told is handed on here; not so where a write has failed
-// before, since the text would then go on behind a gap.
-fn tell(rt: &HostRuntime, input: &[u8], text: &mut [u8]) -> Handed
-    requires { (longest_line ≤ length text.old) × (length text.old ≤ largest_text) }
-    ensures { HandsOn input.now result }
-{
-    let page = answer(rt, input, &mut *text);
-    let handed = page.handed;
-    if has_failed(handed) {
-        return handed;
-    }
-    let last = pass_on(rt, input, page, &mut *text);
-    last.handed
+    let mut page = Page::new(rt, input);
+    list(&mut page)?;
+    page.pass_on()?;
+    Ok(page.handed)
 }
 
 // One byte more is read than the program takes, to see an input that is too long: `read_full` stops where the buffer is full or the
-// input ends. The text's buffer is large so that a write of the system, which costs far more than a line, is made for hundreds of
-// lines at once.
+// input ends. A write that failed was told, and the program ends.
 fn main(rt: HostRuntime) {
     let mut input = [0u8; LONGEST_INPUT + 1];
-    let mut text = [0u8; LARGEST_TEXT];
     let n = read_full(&mut rt.stdin(), &mut input);
-    tell(&rt, &input[..n], &mut text);
+    let _ = tell(&rt, &input[..n]);
 }

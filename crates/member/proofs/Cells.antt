@@ -1,5 +1,5 @@
 -- What the cell of each record says: whether the record lists the row restricted to its flag. First by the record's kind, then that
--- the test of a turn finds it, then the root's.
+-- the test of a turn finds it.
 use mathlib.Core.Bool.{Bool, ◌&&◌, ◌||◌, false, true}
 use mathlib.Core.List.{List, [], ◌++◌}
 use mathlib.Core.Logic.{⊎_elim}
@@ -7,23 +7,23 @@ use mathlib.Core.Path.{◌∙◌, ◌≡◌, ap, ap₂, refl, sym}
 use Prim.Native.Nat.{◌<◌, ◌≤◌, ℕ}
 use native.Mathlib.Omega.{arith}
 use lib.Dec.{eqb}
-use lib.ListN.{drop, get_or, length, replicate, take}
+use lib.ListN.{get_or, length, take}
+use Rattle.std.specs.Int.{from_bool}
 use Rattle.paper.specs.declared.Record.{Record}
 use Rattle.paper.specs.Questions.{is_listed}
 use Rattle.paper.specs.Records.{listings, record_rows}
-use Rattle.paper.specs.Row.{Row, blank, products}
+use Rattle.paper.specs.Row.{Row, products}
 use Rattle.paper.specs.Sound.{entry}
 use Rattle.laws.specs.QuestionCauses.{IsProduct, IsSingle, IsUnion, SoundAt}
 use Rattle.laws.proofs.Listings.{listings_at, listings_first}
 use Rattle.laws.proofs.Shaped.{kind_product, kind_single, kind_union, product_rows, shaped_all, single_rows, union_rows}
 use Rattle.laws.proofs.Shapes.{Shape, shape_few}
 use Rattle.laws.proofs.SoundRecords.{sound_from_all}
-use Rattle.member.specs.Pass.{cell, lists}
-use Rattle.member.specs.Rows.{padded, stands}
-use Rattle.member.proofs.Restricted.{product_lists, restricted, single_lists, stands_before, union_lists}
+use Rattle.member.specs.Rows.{lists, stands}
+use Rattle.member.proofs.Restricted.{product_lists, restricted, single_lists, union_lists}
 
 -- a cell is 1 where it says so
-cell_one : (c : Bool) → eqb (cell c) 1 ≡ c
+pub cell_one : (c : Bool) → eqb (from_bool c) 1 ≡ c
 cell_one true = refl
 cell_one false = refl
 
@@ -76,25 +76,22 @@ module _ (k N : ℕ) (few : N ≤ 4095) (table : List Record) (sounds : (i : ℕ
         (shaped r.left (omega (arith, e.1))) (shaped r.right (omega (arith, e.2)))
 
     -- ---- the test of a turn, by the cells of the records before
-    module _ (work : List ℕ) (cells : (j : ℕ) → j < i → get_or work j 0 ≡ cell (listed_at k table row j)) where
+    module _ (work : List ℕ) (cells : (j : ℕ) → j < i → get_or work j 0 ≡ from_bool (listed_at k table row j)) where
       one : (j : ℕ) → j < i → eqb (get_or work j 0) 1 ≡ listed j
       one j h = ap (λ (n : ℕ). eqb n 1) (cells j h) ∙ cell_one (listed j)
 
-      pub turn_lists : lists (padded row) work (entry table i) ≡ listed_at k table row i
+      pub turn_lists : lists row work (entry table i) ≡ listed_at k table row i
       turn_lists = ⊎_elim single (⊎_elim union product) (sounds i there).kind
         where
-          single : IsSingle r → lists (padded row) work r ≡ listed i
-          single e =
-              kind_single r.kind _ _ _ e.0
-              ∙ stands_before r.node r.flag row (drop (length row) (replicate 4 blank)) (rw long (sounds i there).flag_below)
-              ∙ sym (single_listed e)
+          single : IsSingle r → lists row work r ≡ listed i
+          single e = kind_single r.kind _ _ _ e.0 ∙ sym (single_listed e)
 
-          union : IsUnion table i r → lists (padded row) work r ≡ listed i
+          union : IsUnion table i r → lists row work r ≡ listed i
           union e =
               kind_union r.kind _ _ _ e.0
               ∙ ap₂ (λ (a b : Bool). a || b) (one r.left e.1) (one r.right e.2) ∙ sym (union_listed e)
 
-          product : IsProduct table i r → lists (padded row) work r ≡ listed i
+          product : IsProduct table i r → lists row work r ≡ listed i
           product e =
               kind_product r.kind _ _ _ e.0
               ∙ ap₂ (λ (a b : Bool). a && b) (one r.left e.1) (one r.right e.2) ∙ sym (product_listed e)

@@ -1,131 +1,130 @@
--- The pass over the records of a sound set: what holds before each turn, that a turn keeps it, and that the last one leaves the answer.
-use mathlib.Core.Bool.{Bool, false, true, true≢false}
+-- The pass over the records of a sound set: what holds before each turn, that a turn keeps it, and what the root's cell says at the end.
+use mathlib.Core.Bool.{Bool, false, or-false, true}
 use mathlib.Core.List.{List, []}
 use mathlib.Core.Logic.{⊎_elim}
 use mathlib.Core.Path.{◌∙◌, ◌≡◌, ap, refl, subst, sym}
-use Prim.Native.Nat.{◌+◌, ◌-◌, ◌<◌, ◌≤◌, ℕ}
+use Prim.Native.Nat.{◌+◌, ◌<◌, ◌≤◌, ℕ}
 use native.Mathlib.Omega.{arith}
-use borrow.Author.Tests.{eqb-false, eqb-true, ltb-false, ltb-true}
-use lib.Dec.{eqb, ltb}
-use lib.ListN.{drop, get_or, length, set}
-use lib.Seq.{drop-set-lt, get_or-set_other, get_or-set_same, get_or-take}
+use borrow.Author.Tests.{eqb-false, eqb-true}
+use lib.Dec.{eqb}
+use lib.ListN.{drop, get_or, length, replicate, set, take}
+use lib.Seq.{drop-set-lt, get_or-set_other, get_or-set_same, get_or-take, length-take-le}
+use Rattle.std.specs.Int.{from_bool}
 use Rattle.paper.specs.declared.Head.{Head}
 use Rattle.paper.specs.declared.Record.{Record}
-use Rattle.paper.specs.declared.Set.TheVariants.{Record as at}
+use Rattle.paper.specs.declared.Set.TheVariants.{Record as at, Unit as unit}
+use Rattle.paper.specs.declared.kinds.RecordKind.{RecordKind}
+use Rattle.paper.specs.declared.kinds.RecordKind.TheVariants.{Single, Union, Product}
+use Rattle.paper.specs.Kinds.{kind_number}
+use Rattle.paper.specs.Lists.{same}
 use Rattle.paper.specs.Questions.{is_listed}
 use Rattle.paper.specs.Records.{blank_entry, listing, listings, set_rows, used_of}
-use Rattle.paper.specs.Row.{Row}
+use Rattle.paper.specs.Row.{Row, blank}
 use Rattle.paper.specs.Sound.{entry}
 use Rattle.laws.specs.QuestionCauses.{SetFits, SoundAt}
+use Rattle.laws.proofs.Lists.{same_refl}
 use Rattle.sound.proofs.Cells.{used_length}
-use Rattle.member.specs.Driving.{Starts}
-use Rattle.member.specs.Pass.{Reads, State, Turns, cell, lists, past}
-use Rattle.member.proofs.Cells.{listed_at, turn_lists}
-use Rattle.member.proofs.Restricted.{fits_restricted, restricted}
+use Rattle.member.specs.Pass.{Finds, Fitting}
+use Rattle.member.specs.Rows.{Reads, lists}
+use Rattle.member.proofs.Cells.{cell_one, listed_at, turn_lists}
+use Rattle.member.proofs.Restricted.{fits_restricted, restricted, restricted_none}
 
-module _ {h : Head} {table : List Record} {row : Row} {s₀ : State} (begins : Starts h table row s₀) where
+-- record i lists the row restricted to its flag
+abbrev pub lists_at : Head → List Record → Row → ℕ → Bool
+lists_at h table row = listed_at h.arity (used_of h table) row
+
+-- before the turn of record i the cells of those below it are right, and what stands behind the cells is as it was
+pub record Passing (h : Head) (table : List Record) (row : Row) (before : List ℕ) (i : ℕ) (work : List ℕ) : Type 0 where
+  pub cells : (j : ℕ) → j < i → get_or work j 0 ≡ from_bool (lists_at h table row j)
+  pub rest : drop h.used work ≡ drop h.used before
+
+module _ {h : Head} {table : List Record} {work : List ℕ} {row : Row} (F : Fitting h table work row) where
   used_long : length (used_of h table) ≡ h.used
-  used_long = used_length h table begins.sound.used_there
+  used_long = used_length h table F.sound.used_there
 
   sounds : (i : ℕ) → i < length (used_of h table) → SoundAt h.arity h.nodes (used_of h table) i (entry (used_of h table) i)
-  sounds i l = begins.sound.records i (omega (arith, used_long))
+  sounds i l = F.sound.records i (omega (arith, used_long))
 
-  -- record i lists the row restricted to its flag
-  abbrev lists_at : ℕ → Bool
-  lists_at = listed_at h.arity (used_of h table) row
+  module _ {root : ℕ} (is : h.set ≡ at root) where
+    -- the root is a used record, with the open places as its flag
+    root_fits : SetFits h (used_of h table) (at root)
+    root_fits = subst (SetFits h (used_of h table)) is F.sound.set
 
-  -- the root is a used record, with the open places as its flag
-  root_fits : SetFits h (used_of h table) (at s₀.root)
-  root_fits = subst (SetFits h (used_of h table)) begins.root begins.sound.set
+    root_inside : root < h.used
+    root_inside = root_fits.0
 
-  -- it lists the row exactly where the set does
-  root_lists : lists_at s₀.root ≡ is_listed (listing h table) row
-  root_lists =
-      (λ k. is_listed (get_or (listings h.arity (used_of h table)) s₀.root []) (restricted (root_fits.1 k) row))
-      ∙ (let e = sym begins.root in
-      λ k. is_listed (set_rows h.arity (listings h.arity (used_of h table)) (e k)) (fits_restricted h row begins.fits k))
+    -- the records of the pass
+    abbrev passed : List Record
+    passed = take (root + 1) table
 
-  -- ---- before each turn the cells of the records passed are right
-  pub record Passing (work₀ : List ℕ) (s : State) (work : List ℕ) : Type 0 where
-    pub root : s.root ≡ s₀.root
-    pub shown : s.row ≡ s₀.row
-    pub rest : drop h.used work ≡ drop h.used work₀
-    pub goes : s.going ≡ true → (s.at ≤ s₀.root) × ((j : ℕ) → j < s.at → get_or work j 0 ≡ cell (lists_at j))
-    pub stops : s.going ≡ false → s.listed ≡ is_listed (listing h table) row
+    passed_long : root + 1 ≡ length passed
+    passed_long = sym (length-take-le (root + 1) table (omega (arith, root_inside, F.sound.used_there)))
 
-  pub passing_first : (work₀ : List ℕ) → Passing work₀ s₀ work₀
-  passing_first work₀ = record {
-    root = refl;
-    shown = refl;
-    rest = refl;
-    goes = λ e. (omega (arith, begins.first), λ j l. absurd (omega (arith, begins.first)));
-    stops = λ e. absurd (true≢false (sym begins.going ∙ e));
-  }
+    -- ---- a turn
+    module _ (i : ℕ) (within : i < length passed) where
+      inside : i < h.used
+      inside = omega (arith, passed_long, root_inside)
 
-  module _ {work₀ : List ℕ} {s : State} {work : List ℕ} (p : Passing work₀ s work) (going : s.going ≡ true) where
-    inside : s.at < h.used
-    inside = omega (arith, (p.goes going).0, root_fits.0)
+      read : entry (used_of h table) i ≡ entry passed i
+      read =
+          get_or-take h.used table i blank_entry inside
+          ∙ sym (get_or-take (root + 1) table i blank_entry (omega (arith, passed_long)))
 
-    -- the record that the turn reads is a used one
-    read : entry (used_of h table) s.at ≡ entry table s.at
-    read = get_or-take h.used table s.at blank_entry inside
+      -- the record has a kind, and its operands do not stand behind it
+      pub reads : (now : List ℕ) → length now ≡ length work → Reads (entry passed i) now
+      reads now long = subst (λ (r : Record). Reads r now) read (
+        ⊎_elim (λ e. kept Single e.0 (omega (arith, e.1)) (omega (arith, e.2)))
+        (⊎_elim (λ e. kept Union e.0 (omega (arith, e.1)) (omega (arith, e.2))) (λ e. kept Product e.0 (omega (arith, e.1)) (omega (arith, e.2))))
+        (sounds i (omega (arith, used_long, inside))).kind
+      )
+        where
+          kept : (k : RecordKind) → (entry (used_of h table) i).kind ≡ kind_number k → (entry (used_of h table) i).left ≤ i
+              → (entry (used_of h table) i).right ≤ i → Reads (entry (used_of h table) i) now
+          kept k is left right = record { kind = (k, is); left = omega (arith, F.room, inside); right = omega (arith, F.room, inside) }
 
-    in_used : s.at < length (used_of h table)
-    in_used = omega (arith, inside, used_long)
+      pub onward : {now : List ℕ} → length now ≡ length work → Passing h table row work i now
+          → Passing h table row work (i + 1) (set now i (from_bool (lists row now (entry passed i))))
+      onward {now} long P = rw found (record {
+        cells = λ j l. go j l (eqb j i) refl;
+        rest = drop-set-lt h.used now i (from_bool (lists_at h table row i)) inside ∙ P.rest;
+      })
+        where
+          found : lists row now (entry passed i) ≡ lists_at h table row i
+          found =
+              ap (lists row now) (sym read)
+              ∙ turn_lists h.arity h.nodes F.sound.few_nodes (used_of h table) sounds row F.long i (omega (arith, used_long, inside)) now P.cells
 
-    -- and its operands do not stand behind it
-    operands : ((entry table s.at).left ≤ s.at) × ((entry table s.at).right ≤ s.at)
-    operands =
-        subst (λ (r : Record). (r.left ≤ s.at) × (r.right ≤ s.at)) read
-        (⊎_elim (λ e. (omega (arith, e.1), omega (arith, e.2)))
-        (⊎_elim (λ e. (omega (arith, e.1), omega (arith, e.2))) (λ e. (omega (arith, e.1), omega (arith, e.2)))) (sounds s.at in_used).kind)
+          go : (j : ℕ) → j < i + 1 → (c : Bool) → eqb j i ≡ c
+              → get_or (set now i (from_bool (lists_at h table row i))) j 0 ≡ from_bool (lists_at h table row j)
+          go j l true e =
+              rw (eqb-true j i e) (get_or-set_same now i (from_bool (lists_at h table row i)) 0 (omega (arith, F.room, inside)))
+          go j l false e =
+              get_or-set_other now i j (from_bool (lists_at h table row i)) 0 (eqb-false j i e) ∙ P.cells j (omega (arith, eqb-false j i e))
 
-    pub in_table : s.at < length table
-    in_table = omega (arith, inside, begins.sound.used_there)
+    -- ---- the end
+    -- the root lists the row exactly where the set does
+    root_lists : lists_at h table row root ≡ is_listed (listing h table) row
+    root_lists =
+        (λ k. is_listed (get_or (listings h.arity (used_of h table)) root []) (restricted (root_fits.1 k) row))
+        ∙ (let e = sym is in
+        λ k. is_listed (set_rows h.arity (listings h.arity (used_of h table)) (e k)) (fits_restricted h row F.fits k))
 
-    pub turn_reads : h.used ≤ length work → Reads s (entry table s.at) work
-    turn_reads enough = record {
-      here = omega (arith, inside);
-      left = omega (arith, operands.0, inside);
-      right = omega (arith, operands.1, inside);
+    pub finds : {i : ℕ} {now : List ℕ} → length passed ≤ i → Passing h table row work i now → Finds h table work row (eqb (get_or now root 0) 1) now
+    finds all P = record {
+      listed =
+          ap (λ (n : ℕ). eqb n 1) (P.cells root (omega (arith, passed_long)))
+          ∙ cell_one (lists_at h table row root) ∙ root_lists;
+      rest = P.rest;
     }
 
-    -- ---- one turn
-    module _ (here : s.at < length work) {s' : State} {work' : List ℕ} (turn : Turns s (entry table s.at) work s' work') where
-      found : lists s.row work (entry table s.at) ≡ lists_at s.at
-      found =
-          (λ k. lists ((p.shown ∙ begins.shown) k) work (sym read k))
-          ∙ turn_lists h.arity h.nodes begins.sound.few_nodes (used_of h table) sounds row begins.long s.at in_used work (p.goes going).1
-
-      state : s' ≡ past s (lists_at s.at)
-      state = turn.state ∙ ap (past s) found
-
-      written : work' ≡ set work s.at (cell (lists_at s.at))
-      written = turn.worked ∙ ap (λ (c : Bool). set work s.at (cell c)) found
-
-      cells : (j : ℕ) → j < s'.at → get_or work' j 0 ≡ cell (lists_at j)
-      cells j l = ap (λ (w : List ℕ). get_or w j 0) written ∙ go (eqb j s.at) refl
-        where
-          go : (c : Bool) → eqb j s.at ≡ c → get_or (set work s.at (cell (lists_at s.at))) j 0 ≡ cell (lists_at j)
-          go true e =
-              subst (λ (i : ℕ). get_or (set work s.at (cell (lists_at s.at))) i 0 ≡ cell (lists_at i)) (sym (eqb-true j s.at e))
-              (get_or-set_same work s.at (cell (lists_at s.at)) 0 here)
-          go false e =
-              get_or-set_other work s.at j (cell (lists_at s.at)) 0 (eqb-false j s.at e)
-              ∙ (p.goes going).1 j (omega (arith, ap (λ (t : State). t.at) state, eqb-false j s.at e))
-
-      goes_on : s'.going ≡ ltb s.at s₀.root
-      goes_on = ap (λ (t : State). t.going) state ∙ ap (ltb s.at) p.root
-
-      pub passing_next : Passing work₀ s' work'
-      passing_next = record {
-        root = ap (λ (t : State). t.root) state ∙ p.root;
-        shown = ap (λ (t : State). t.row) state ∙ p.shown;
-        rest = ap (drop h.used) written ∙ drop-set-lt h.used work s.at (cell (lists_at s.at)) inside ∙ p.rest;
-        goes = λ e. (omega (arith, ap (λ (t : State). t.at) state, ltb-true s.at s₀.root (sym goes_on ∙ e)), cells);
-        stops = λ e. let last : s.at ≡ s₀.root = omega (arith, (p.goes going).0, ltb-false s.at s₀.root (sym goes_on ∙ e)) in
-            ap (λ (t : State). t.listed) state ∙ ap lists_at last ∙ root_lists;
-      }
-
-      pub comes_nearer : s'.root + 1 - s'.at < s.root + 1 - s.at
-      comes_nearer = omega (arith, ap (λ (t : State). t.at) state, ap (λ (t : State). t.root) state, (p.goes going).0, p.root)
+  -- unit has no open place, so a row that fits is all blank
+  pub finds_unit : h.set ≡ unit → Finds h table work row true work
+  finds_unit is = record {
+    listed =
+        let none : h.open_places ≡ 0 = subst (SetFits h (used_of h table)) is F.sound.set in
+        let all : row ≡ replicate h.arity blank =
+        sym (fits_restricted h row F.fits) ∙ ap (λ (b : ℕ). restricted b row) none ∙ restricted_none row
+        ∙ ap (λ (n : ℕ). replicate n blank) F.long in
+        rw (is, all) (sym (or-false (same (replicate h.arity blank) (replicate h.arity blank)) ∙ same_refl (replicate h.arity blank)));
+    rest = refl;
+  }

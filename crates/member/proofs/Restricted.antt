@@ -1,17 +1,17 @@
 -- Rows restricted to the places of a flag. First place by place, then two flags that share no bit and rows merged, then which
--- restricted rows a single, a union and a product list, then what stands behind a row's end, then a row that fits its set.
-use mathlib.Core.Bool.{Bool, ◌&&◌, ◌||◌, cond, false, or-false, true, true≢false}
+-- restricted rows a single, a union and a product list, then a row that fits its set.
+use mathlib.Core.Bool.{Bool, ◌&&◌, ◌||◌, cond, false, not, or-false, true, true≢false}
 use mathlib.Core.List.Memᴰ
 use mathlib.Core.List.{List, [], ◌++◌, ◌∷◌}
 use mathlib.Core.Path.{◌∙◌, ◌≡◌, ap, refl, sym}
-use Prim.Native.Nat.{◌%◌, ◌+◌, ◌/◌, ◌<◌, ◌^◌, suc, zero, ℕ}
-use native.Mathlib.Nat.{pow-suc}
+use Prim.Native.Nat.{◌%◌, ◌+◌, ◌/◌, ◌<◌, suc, zero, ℕ}
 use native.Mathlib.Omega.{arith}
 use borrow.Author.Tests.{eqb-true}
 use lib.Bits.{and_comm, bit_and}
 use lib.Dec.{eqb, ltb}
 use lib.ListN.{get_or, length, replicate}
 use lib.Seq.{ext_get_or}
+use Rattle.std.specs.List.{enumerate_from, list_all}
 use Rattle.paper.specs.declared.Head.{Head}
 use Rattle.paper.specs.Lists.{same}
 use Rattle.paper.specs.Questions.{has_place, is_listed}
@@ -117,17 +117,23 @@ module _ (a b : ℕ) (apart : bit_and a b ≡ 0) where
         go i w false e = sym (entry_blank (length x) b i y (sym same_length) right w e)
 
 -- ---- which restricted rows are listed
--- a single lists the row at whose places its node stands
-single_same : (n b : ℕ) (row : Row) → same (single_row (length row) n b) (restricted b row) ≡ stands n b row
-single_same n b [] = refl
-single_same n b (x ∷ xs) = rw (single_same n (b / 2) xs) (go (eqb (b % 2) 1))
+-- a single lists the row at whose places its node stands; `rest` has the flag's places from i on
+single_same : (n b i rest : ℕ) (row : Row) → ((j : ℕ) → has_place b (i + j) ≡ has_place rest j)
+    → same (single_row (length row) n rest) (restricted rest row) ≡ list_all (λ p. not (has_place b p.0) || eqb n p.1) (enumerate_from i row)
+single_same n b i rest [] left = refl
+single_same n b i rest (x ∷ xs) left =
+    let first : has_place b i ≡ eqb (rest % 2) 1 = (let z : i ≡ i + 0 = omega arith in ap (has_place b) z) ∙ left 0 in
+    let others = single_same n b (i + 1) (rest / 2) xs (λ j. (let z : i + 1 + j ≡ i + suc j = omega arith in ap (has_place b) z) ∙ left (suc j)) in
+    rw (first, others) (go (eqb (rest % 2) 1) (list_all (λ p. not (has_place b p.0) || eqb n p.1) (enumerate_from (i + 1) xs)))
   where
-    go : (c : Bool) → eqb (cond c n blank) (cond c x blank) && stands n (b / 2) xs ≡ cond c (eqb n x) true && stands n (b / 2) xs
-    go true = refl
-    go false = refl
+    go : (c more : Bool) → eqb (cond c n blank) (cond c x blank) && more ≡ (not c || eqb n x) && more
+    go true more = refl
+    go false more = refl
 
 pub single_lists : (k n b : ℕ) (row : Row) → length row ≡ k → is_listed (single_row k n b ∷ []) (restricted b row) ≡ stands n b row
-single_lists k n b row long = rw (← long) (or-false (same (single_row (length row) n b) (restricted b row)) ∙ single_same n b row)
+single_lists k n b row long =
+    rw (← long) (or-false (same (single_row (length row) n b) (restricted b row))
+    ∙ single_same n b 0 b row (λ j. let z : 0 + j ≡ j = omega arith in rw z))
 
 -- a union lists the rows of both operands
 pub union_lists : (left right : List Row) (row : Row) → is_listed (left ++ right) row ≡ is_listed left row || is_listed right row
@@ -163,16 +169,6 @@ product_lists k a b left right row apart shaped shaped' =
         in_listed (products left right) (restricted (a + b) row)
         (Memᴰ.cast (merge_restricted a b apart row)
         (in_products left right (listed_in left (restricted a row) l) (listed_in right (restricted b row) r)))
-
--- ---- the row behind its end
-stands_nowhere : (n : ℕ) (row : Row) → stands n 0 row ≡ true
-stands_nowhere n [] = refl
-stands_nowhere n (x ∷ xs) = stands_nowhere n xs
-
--- what stands there has no place of the flag
-pub stands_before : (n b : ℕ) (row more : Row) → b < 2 ^ length row → stands n b (row ++ more) ≡ stands n b row
-stands_before n b [] more h = let none : b ≡ 0 = omega arith in rw none (stands_nowhere n more)
-stands_before n b (x ∷ xs) more h = rw (stands_before n (b / 2) xs more (omega (arith, pow-suc 2 (length xs))))
 
 -- ---- a row that fits is blank at the places that are not open
 fits_from : (h : Head) (row : Row) (i b : ℕ) → ((j : ℕ) → has_place h.open_places (i + j) ≡ has_place b j) → entries_fit h i row ≡ true

@@ -1,6 +1,4 @@
 pub mod Rows
 pub mod Pass
-pub mod Driving
-pub mod Start
 pub mod Answer
 pub mod Face

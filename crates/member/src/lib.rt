@@ -1,43 +1,53 @@
-// Member: whether a set lists a row. One pass upwards over its records, as far as the root: operands
-// have lower numbers, so what they list is known when a record's turn comes.
+// Member: whether a set lists a row. First the question, then its own tests, which are of the row.
 #![tactic(auto)]
 
+ghost use Rattle.std.specs.Prelude.{◌≡◌};
+ghost use Rattle.paper.specs.Refusals.{entries_fit};
+ghost use Rattle.member.specs.Answer.{Askable, Answers};
 ghost use Rattle.member.specs.Face.{Members};
-ghost use Rattle.member.specs.Driving.{Ready, Driven};
 
-use crate::answer::finish;
-use crate::pass::{State, next};
-use crate::start::{begin, verdict};
-use paper::{Head, Member, Record};
-use sound::weigh;
+use crate::pass::lists_row;
+use paper::{Head, Place, Record, Refusal};
+use places::has_place;
+use sound::{clear, weigh};
 
-mod answer;
 mod pass;
-mod start;
 
 // Whether the set lists the row. The weights tell nothing here: each number of the work is written
 // anew before it is read.
-pub fn member(head: Head, table: &[Record], work: &mut [u64], row: &[u16]) -> Member
+pub fn member(head: Head, table: &[Record], work: &mut [u64], row: &[u16]) -> Result<bool, Refusal>
     ensures { Members head table.now work.old row.now result work.new }
 {
-    let w = weigh(head, table, &mut *work);
-    let v = verdict(w, head, row);
-    let s = begin(v, head, row);
-    let e = drive(table, s, &mut *work);
-    finish(e, v, &mut *work)
+    weigh(head, table, work)?;
+    let answered = answer(head, table, work, row);
+    clear(work, head.used as usize);
+    answered
 }
 
-// All turns, a record each. It ends at the root, to which `at` rises by 1 a turn: no record above the
-// root is part of the set.
-fn drive(table: &[Record], s: State, work: &mut [u64]) -> State
-    requires { Ready table.now s work.old }
-    ensures { Driven table.now s work.old result work.new }
+// What is answered of a sound set: 13, then 8, as the paper orders them, then what the pass finds.
+// Entries are looked at only where there is one for each place.
+fn answer(head: Head, table: &[Record], work: &mut [u64], row: &[u16]) -> Result<bool, Refusal>
+    requires { Askable head table.now work.old }
+    ensures { Answers head table.now work.old row.now result work.new }
 {
-    let mut t = s;
-    while t.going {
-        let k = t.at;
-        let r = table[k];
-        t = next(t, r, &mut *work);
+    if row.len() != head.arity as usize {
+        return Err(Refusal::RowLength);
     }
-    t
+    if !entries_fit(head, row) {
+        return Err(Refusal::Node);
+    }
+    Ok(lists_row(head, table, work, row))
+}
+
+// Whether each entry fits its place: a node of the tree at an open one, blank at a fixed one.
+fn entries_fit(head: Head, row: &[u16]) -> bool
+    ensures { result ≡ entries_fit head 0 row.now }
+{
+    row.iter().enumerate().all(|(index, &entry)| {
+        if has_place(head.open_places, index) {
+            entry < head.nodes
+        } else {
+            entry == Place::BLANK
+        }
+    })
 }

@@ -22,6 +22,16 @@ pub struct Record {
     pub flag: u16,
 }
 
+impl Record {
+    pub const BLANK: Record = Record {
+        kind: 0,
+        node: 0,
+        left: 0,
+        right: 0,
+        flag: 0,
+    };
+}
+
 // What a head's set is. Empty lists no row and unit one row of blanks; neither is ever a record, nor an operand of one.
 #[derive(Clone, Copy, Debug, PartialEq, Eq)]
 pub enum Set {

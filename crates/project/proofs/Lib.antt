@@ -1,10 +1,7 @@
 pub mod Zeros
 pub mod Marking
-pub mod StateShape
 pub mod Operands
 pub mod Standing
 pub mod Made
 pub mod Passing
-pub mod Driving
 pub mod Projecting
-pub mod Facing

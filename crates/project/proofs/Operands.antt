@@ -1,4 +1,4 @@
--- The used records of a sound set. First their operands, which have no higher numbers; then their rows: those of a single, of a union and of a
+-- The used records of a sound set. First their operands, which have no higher numbers, and their kinds; then their rows: those of a single, of a union and of a
 -- product from their operands', their shape, and that every record lists some row.
 use mathlib.Core.List.{List, [], ◌++◌, ◌∷◌}
 use mathlib.Core.Logic.{⊎_elim}
@@ -8,6 +8,9 @@ use native.Mathlib.Omega.{arith}
 use lib.ListN.{get_or, length, take}
 use Rattle.paper.specs.declared.Head.{Head}
 use Rattle.paper.specs.declared.Record.{Record}
+use Rattle.paper.specs.declared.kinds.RecordKind.{RecordKind}
+use Rattle.paper.specs.declared.kinds.RecordKind.TheVariants.{Single, Union, Product}
+use Rattle.paper.specs.Kinds.{kind_number}
 use Rattle.paper.specs.Lists.{◌∈◌}
 use Rattle.paper.specs.Records.{listings, record_rows, used_of}
 use Rattle.paper.specs.Row.{Row, products, single_row}
@@ -37,6 +40,9 @@ module _ (h : Head) (table : List Record) where
     operands_low k below =
         ⊎_elim (λ e. (omega (arith, e.1), omega (arith, e.2)))
         (⊎_elim (λ e. (omega (arith, e.1), omega (arith, e.2))) (λ e. (omega (arith, e.1), omega (arith, e.2)))) (S.records k below).kind
+
+    pub known_kind : (k : ℕ) → k < h.used → (kind : RecordKind) × ((entry used k).kind ≡ kind_number kind)
+    known_kind k below = ⊎_elim (λ e. (Single, e.0)) (⊎_elim (λ e. (Union, e.0)) (λ e. (Product, e.0))) (S.records k below).kind
 
     pub shaped : (k : ℕ) → k < h.used → Shape h.arity (entry used k).flag (rows k)
     shaped k below =

@@ -8,7 +8,7 @@ use mathlib.Core.Logic.{◌↔◌, ⊎_elim}
 use mathlib.Core.Path.{◌∙◌, ◌≡◌, ap, refl, sym}
 use Prim.Native.Nat.{◌+◌, ◌-◌, ◌<◌, ◌≤◌, suc, zero, ℕ}
 use native.Mathlib.Omega.{arith}
-use borrow.Author.Tests.{eq-eqb, eqb-false, eqb-true, leb-true}
+use borrow.Author.Tests.{eqb-false, eqb-true, leb-true}
 use lib.Dec.{eqb, leb}
 use lib.ListN.{drop, get_or, length, length-set, set, take}
 use lib.Seq.{drop-set-lt, get_or-set_other, get_or-set_same, get_or-take, length-take-le}
@@ -25,12 +25,13 @@ use Rattle.laws.specs.QuestionCauses.{SetFits, Sound}
 use Rattle.laws.specs.Said.{StandsIn}
 use Rattle.laws.proofs.Listed.{row_stands, stands_row}
 use Rattle.laws.proofs.Bits.{no_places}
-use Rattle.laws.proofs.Lists.{both_true, iff_eq, or_cases, or_left, or_right, which}
+use Rattle.laws.proofs.Lists.{both_true, iff_eq, in_at, or_cases, true_has, which}
+use Rattle.sound.proofs.Overwriting.{cleared_all}
+use Rattle.project.specs.Answer.{Askable}
 use Rattle.project.specs.Marks.{Kept, marks_in}
-use Rattle.project.specs.Passing.{InWork, Ready, passed, turns_left}
-use Rattle.project.specs.Start.{root_marked, root_state}
+use Rattle.project.specs.Passing.{InWork, Ready, nodes_kept, passed, root_marked, turns}
 use Rattle.project.proofs.Zeros.{zeroed, zeroed_length, zeroed_rest, zeroed_within}
-use Rattle.project.proofs.Operands.{operands_low, rows}
+use Rattle.project.proofs.Operands.{known_kind, operands_low, rows}
 use Rattle.project.proofs.Passing.{Cells, Down, Found, above, below, passes}
 
 -- ---- the numbers of a list, by index
@@ -40,9 +41,7 @@ has_index (y ∷ ys) x e =
     ⊎_elim (λ w. (0, omega arith, eqb-true y x w)) (λ w. let (k, l, is) = has_index ys x w in (suc k, omega arith, is)) (or_cases (eqb y x) (has ys x) e)
 
 index_has : (xs : List ℕ) (k x : ℕ) → k < length xs → get_or xs k 0 ≡ x → has xs x ≡ true
-index_has [] k x l e = absurd (omega arith)
-index_has (y ∷ ys) zero x l e = or_left (eqb y x) (has ys x) (eq-eqb y x e)
-index_has (y ∷ ys) (suc k) x l e = or_right (eqb y x) (has ys x) (index_has ys k x (omega arith) e)
+index_has xs k x l e = true_has xs x (Memᴰ.cast (sym e) (in_at 0 xs k l))
 
 -- tests that agree on the numbers from k up give the same bytes
 same_bytes : (p q : ℕ → Bool) (n k : ℕ) → ((m : ℕ) → m < k + n → p m ≡ q m)
@@ -51,10 +50,26 @@ same_bytes p q zero k agree = refl
 same_bytes p q (suc n) k agree = rw (agree k (omega arith), same_bytes p q n (suc k) (λ m w. agree m (omega arith)))
 
 -- what the pass leaves: each cell keeps a node or none, behind the cells the work is as it was, and the bytes are the paper's
-pub record Ends (h : Head) (table : List Record) (place : ℕ) (work cells : List ℕ) : Type 0 where
-  pub kept : Kept cells h.used h.nodes
-  pub behind : drop h.used cells ≡ drop h.used work
-  pub marks : marks_in (take h.used cells) h.nodes ≡ marks_of h table place
+pub record Ends (h : Head) (table : List Record) (place : ℕ) (work now : List ℕ) : Type 0 where
+  pub kept : Kept (take h.used now) h.nodes
+  pub behind : drop h.used now ≡ drop h.used work
+  pub marks : marks_in (take h.used now) h.nodes ≡ marks_of h table place
+
+-- each record that is looked at is in the table, and its cells are in the work
+pub pass_ready : {h : Head} {table : List Record} {work : List ℕ} → Askable h table work → Ready h table work
+pass_ready {h} {table} {work} A = record { there = omega (arith, few h.set A.sound.set, A.sound.used_there); cells = λ k w. in_work k (omega (arith, few h.set A.sound.set)) }
+  where
+    few : (set : Set) → SetFits h (used_of h table) set → turns set ≤ h.used
+    few empty fits = omega arith
+    few unit fits = omega arith
+    few (at r) fits = fits.0
+
+    in_work : (k : ℕ) → k < h.used → InWork k (entry table k) work
+    in_work k l =
+        let same : entry (used_of h table) k ≡ entry table k = get_or-take h.used table k blank_entry l in
+        let (left, right) = operands_low h table A.sound k l in
+        let room = A.room in
+        rw (← same) (record { kind = known_kind h table A.sound k l; own = omega arith; left = omega (arith, left); right = omega (arith, right) })
 
 module _ (h : Head) (table : List Record) (S : Sound h table) (place : ℕ) (opened : is_open h place ≡ true) where
   abbrev i : ℕ
@@ -76,9 +91,6 @@ module _ (h : Head) (table : List Record) (S : Sound h table) (place : ℕ) (ope
 
     abbrev first : Set → List ℕ
     first set = root_marked set zeros
-
-    abbrev turns : Set → ℕ
-    turns set = turns_left (root_state place set)
 
     -- all cells are 0, but for the root's
     root_cell : (r : ℕ) → r < h.used → get_or (set zeros r 1) r 0 ≡ 1
@@ -125,19 +137,6 @@ module _ (h : Head) (table : List Record) (S : Sound h table) (place : ℕ) (ope
         absurd (false≢true (sym (no_places i) ∙ ap (λ (b : ℕ). has_place b i) (sym fits) ∙ there.1))
     begins_found (at r) fits n = (root_found r fits.0 n, λ m. below r (omega arith) (root_cell r fits.0) m)
 
-    -- each record in reach is in the table, and its cells are in the work
-    pub pass_ready : (cells : List ℕ) → length cells ≡ length work → Ready table (root_state place h.set) cells
-    pass_ready cells long = record { there = omega (arith, few, S.used_there); cells = λ k w. in_work k (omega (arith, few)) }
-      where
-        few : turns h.set ≤ h.used
-        few = (begins h.set S.set).0
-
-        in_work : (k : ℕ) → k < h.used → InWork k (entry table k) cells
-        in_work k l =
-            let same : entry (used_of h table) k ≡ entry table k = get_or-take h.used table k blank_entry l in
-            let (left, right) = operands_low h table S k l in
-            rw (← same) (record { own = omega (arith, room); left = omega (arith, room, left); right = omega (arith, room, right) })
-
     -- ---- the end
     abbrev last : List ℕ
     last = passed i table (turns h.set) (first h.set)
@@ -174,9 +173,10 @@ module _ (h : Head) (table : List Record) (S : Sound h table) (place : ℕ) (ope
         back : stands_at i n (listing h table) ≡ true → has (take h.used last) (suc n) ≡ true
         back e = kept_at (found.1 (stands_row (listing h table) i n e))
 
-    pub pass_ends : Ends h table place work last
-    pass_ends = record {
-      kept = record { there = down.still.there; small = λ k w. down.still.nodes k (omega arith) w };
+    pub pass_ends : Ends h table place work (nodes_kept i h table work)
+    pass_ends = rw (cleared_all h.used work room) (record {
+      kept = λ k w. let below-used : k < h.used = omega (arith, length-take-le h.used last down.still.there) in
+          rw (get_or-take h.used last k 0 below-used) (down.still.nodes k (omega arith) below-used);
       behind = down.rest ∙ first_behind h.set S.set;
       marks = same_bytes (λ n. has (take h.used last) (suc n)) (λ n. stands_at i n (listing h table)) h.nodes 0 (λ n w. kept_stands n (omega arith));
-    }
+    })

@@ -1,4 +1,4 @@
 pub mod Passing
-pub mod Start
 pub mod Marks
+pub mod Answer
 pub mod Face

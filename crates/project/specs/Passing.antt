@@ -1,9 +1,14 @@
--- The pass over the records, from the root down: what becomes of the cells at one record, and at all of them; then the turns.
-use Rattle.std.specs.Prelude.{Bool, false, cond, List, ◌≡◌, ℕ, zero, suc, ◌+◌, ◌-◌, ◌≤◌, ◌<◌, eqb, length, get_or, set}
+-- The pass over the records, from the root down: what becomes of the cells at one record, and at all of them.
+use Rattle.std.specs.Prelude.{Bool, cond, List, ◌≡◌, ℕ, zero, suc, ◌+◌, ◌≤◌, ◌<◌, eqb, length, get_or, set}
+use Rattle.paper.specs.declared.Head.{Head}
+use Rattle.paper.specs.declared.Record.{Record}
+use Rattle.paper.specs.declared.Set.{Set}
+use Rattle.paper.specs.declared.Set.TheVariants.{Empty as empty, Unit as unit, Record as at}
+use Rattle.paper.specs.declared.kinds.RecordKind.{RecordKind}
+use Rattle.paper.specs.Kinds.{kind_number}
 use Rattle.paper.specs.Questions.{has_place}
 use Rattle.paper.specs.Sound.{entry}
-pub use Rattle.paper.specs.declared.Record.{Record}
-pub use Rattle.project.specs.declared.state.State.{State}
+use Rattle.sound.specs.Questions.{cleared}
 
 -- ---- cells
 -- what a single keeps: its node and 1 more, if it has the place with this index
@@ -23,34 +28,36 @@ abbrev pub cells_after : ℕ → ℕ → Record → List ℕ → List ℕ
 cells_after index k r cells =
     cond (is_marked (get_or cells k 0)) (cond (eqb r.kind 1) (set cells k (kept index r)) (handed_on k r cells)) cells
 
+-- ---- the pass
 -- after the first n records, the last of them first
 abbrev pub passed : ℕ → List Record → ℕ → List ℕ → List ℕ
 passed index table zero cells = cells
 passed index table (suc k) cells = passed index table k (cells_after index k (entry table k) cells)
 
--- ---- turns
--- a record's own cell and those of its operands are in the work
+-- the root is marked, if the set is a record
+abbrev pub root_marked : Set → List ℕ → List ℕ
+root_marked empty cells = cells
+root_marked unit cells = cells
+root_marked (at i) cells = set cells i 1
+
+-- the records that are looked at
+abbrev pub turns : Set → ℕ
+turns empty = 0
+turns unit = 0
+turns (at i) = suc i
+
+abbrev pub nodes_kept : ℕ → Head → List Record → List ℕ → List ℕ
+nodes_kept index h table work = passed index table (turns h.set) (root_marked h.set (cleared h.used work))
+
+-- ---- what is asked
+-- a record has a kind, and its own cell and those of its operands are in the work
 pub record InWork (at : ℕ) (r : Record) (work : List ℕ) : Type 0 where
+  pub kind : (k : RecordKind) × (r.kind ≡ kind_number k)
   pub own : at < length work
   pub left : r.left < length work
   pub right : r.right < length work
 
--- on to the record below, if there is one
-abbrev pub further : State → State
-further t = record { at = t.at - 1; index = t.index; going = cond (eqb t.at 0) false t.going }
-
-pub record Passes (t : State) (r : Record) (work : List ℕ) (s : State) (work' : List ℕ) : Type 0 where
-  pub state : s ≡ further t
-  pub worked : work' ≡ cells_after t.index t.at r work
-
--- the records that are still to be looked at
-abbrev pub turns_left : State → ℕ
-turns_left t = cond t.going (suc t.at) 0
-
--- each of them is in the table, and its cells are in the work
-pub record Ready (table : List Record) (s : State) (work : List ℕ) : Type 0 where
-  pub there : turns_left s ≤ length table
-  pub cells : (k : ℕ) → k < turns_left s → InWork k (entry table k) work
-
-abbrev pub Driven : List Record → State → List ℕ → List ℕ → Type 0
-Driven table s work work' = work' ≡ passed s.index table (turns_left s) work
+-- each record that is looked at is in the table, and its cells are in the work
+pub record Ready (h : Head) (table : List Record) (work : List ℕ) : Type 0 where
+  pub there : turns h.set ≤ length table
+  pub cells : (k : ℕ) → k < turns h.set → InWork k (entry table k) work

@@ -1,53 +1,71 @@
-// Project: a byte 1 for each node that stands at a place in some row of a set, else 0. One pass
-// downwards from the root marks the records under it, since not every used record is; the singles that
-// are met keep their nodes in the work. A record under the root lists some row, and each of its rows
-// is part of one of the root's: so what it has at the place stands there in some row of the set.
+// Project: a byte 1 for each node that stands at a place in some row of a set, else 0. First the
+// question, then its own tests, then the marks.
 #![tactic(auto)]
 
+ghost use Rattle.std.specs.Prelude.{◌≡◌, length};
+ghost use Rattle.project.specs.Answer.{Askable, Answers};
 ghost use Rattle.project.specs.Face.{Projects};
-ghost use Rattle.project.specs.Passing.{Ready, Driven};
+ghost use Rattle.project.specs.Marks.{Kept, marks_in};
 
-use crate::marks::finish;
-use crate::pass::next;
-use crate::start::{begin, verdict};
-use crate::state::State;
-use paper::{Head, Projected, Record};
+use crate::pass::keep_nodes;
+use paper::{Head, Record, Refusal};
+use places::is_open;
+use sound::{clear, weigh};
 
-mod marks;
 mod pass;
-mod start;
-mod state;
 
-// The marks of a place's nodes, in the lent output, which is written at the end. Its length is taken
-// before, since 10 is found with the other refusals.
+// The marks of a place's nodes, in the lent output.
 pub fn project(
     head: Head,
     table: &[Record],
     work: &mut [u64],
     place: u16,
     out: &mut [u8],
-) -> Projected
+) -> Result<(), Refusal>
     ensures { Projects head table.now work.old place out.old result work.new out.new }
 {
-    let w = sound::weigh(head, table, &mut *work);
-    let room = out.len();
-    let v = verdict(w, head, place, room);
-    let s = begin(v, head, &mut *work, place);
-    drive(table, s, &mut *work);
-    finish(v, head, &mut *work, &mut *out)
+    weigh(head, table, work)?;
+    let answered = answer(head, table, work, place, out);
+    clear(work, head.used as usize);
+    answered
 }
 
-// All turns, from the root down. It ends with record 0, to which `at` falls by 1 a turn. Operands have
-// lower numbers, so a record has its mark, if it gets one, when its turn comes.
-fn drive(table: &[Record], s: State, work: &mut [u64]) -> State
-    requires { Ready table.now s work.old }
-    ensures { Driven table.now s work.old work.new }
+// What is answered of a sound set: 7, then 10, as the paper orders them, then the marks of the nodes
+// that the pass keeps. A refusal leaves the output as it is.
+fn answer(
+    head: Head,
+    table: &[Record],
+    work: &mut [u64],
+    place: u16,
+    out: &mut [u8],
+) -> Result<(), Refusal>
+    requires { Askable head table.now work.old }
+    ensures { Answers head table.now work.old place out.old result work.new out.new }
 {
-    let mut t = s;
-    while t.going {
-        let k = t.at;
-        let r = table[k];
-        t = next(t, r, &mut *work);
+    let nodes = head.nodes as usize;
+    if !is_open(head, place) {
+        return Err(Refusal::Place);
     }
-    t
+    if out.len() < nodes {
+        return Err(Refusal::ShortOutput);
+    }
+    keep_nodes(head, table, work, place as usize - 1);
+    mark(&work[..head.used as usize], &mut out[..nodes]);
+    Ok(())
+}
+
+// A byte 1 for each node that a cell keeps.
+fn mark(cells: &[u64], marks: &mut [u8])
+    requires { Kept cells.now (length marks.old) }
+    ensures { marks.new ≡ marks_in cells.now (length marks.old) }
+{
+    // Several cells may keep one node, and none keeps those that stand nowhere: so all bytes are 0
+    // before some are 1.
+    marks.fill(0);
+    for &cell in cells {
+        // A node of the tree, as every record of a sound set has it.
+        if cell != 0 {
+            marks[(cell - 1) as usize] = 1;
+        }
+    }
 }

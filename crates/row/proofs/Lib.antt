@@ -1,11 +1,4 @@
-pub mod Flags
-pub mod Turns
 pub mod RowNumbers
+pub mod SoundSets
 pub mod Leading
-pub mod Descents
-pub mod Onward
-pub mod StateShape
-pub mod Driving
-pub mod Writing
-pub mod Searching
-pub mod Facing
+pub mod Filling

@@ -1,5 +1,3 @@
-pub mod Descent
-pub mod Descending
-pub mod Start
-pub mod Output
+pub mod Listed
+pub mod Found
 pub mod Face

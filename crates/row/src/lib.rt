@@ -1,48 +1,32 @@
 // Row by number: for each open place a descent to the single that has its node, by the numbers of rows
-// that `weigh` has left in the work. The first begins at the root, the next ones below the unions that
-// all of them share. No descent needs a stack, and the work is only read.
+// that `weigh` has left in the work. The descents stand in `set`; here is what C and Rust call.
 #![tactic(auto)]
 
-ghost use Rattle.row.specs.Descending.{Ready, Descended};
 ghost use Rattle.row.specs.Face.{Numbers};
 
-use crate::descent::next;
-use crate::output::finish;
-use crate::start::{begin, verdict};
-use crate::state::State;
-use paper::{Head, Record, Written};
-use sound::weigh;
+use crate::set::SoundSet;
+use paper::{Head, Record, Refusal};
+use sound::{clear, weigh};
 
-mod descent;
-mod flag;
-mod output;
-mod start;
-mod state;
+mod set;
 
-// The row with this number, one entry a place, in the first entries of `out`.
-pub fn row(head: Head, table: &[Record], work: &mut [u64], number: u64, out: &mut [u16]) -> Written
+// The row with this number, one entry a place, in the first entries of `out`. The output may be
+// longer: what is behind them stays.
+pub fn row(
+    head: Head,
+    table: &[Record],
+    work: &mut [u64],
+    number: u64,
+    out: &mut [u16],
+) -> Result<(), Refusal>
     ensures { Numbers head table.now work.old number out.old result work.new out.new }
 {
-    let w = weigh(head, table, &mut *work);
-    let room = out.len();
-    let v = verdict(w, head, &*work, number, room);
-    let s = begin(v, head, number);
-    let e = drive(table, s, &mut *work);
-    finish(e, v, head, &mut *work, &mut *out)
-}
-
-// All descents, one record a turn. It ends, since in a descent each record is lower than the one
-// before it, and each descent is for a later place than the one before; there are at most four. The
-// loop is as in `sound` and the other questions.
-fn drive(table: &[Record], s: State, work: &mut [u64]) -> State
-    requires { Ready table.now s work.old }
-    ensures { Descended table.now s work.old result work.new }
-{
-    let mut t = s;
-    while t.going {
-        let k = t.at;
-        let r = table[k];
-        t = next(t, r, &mut *work);
-    }
-    t
+    weigh(head, table, work)?;
+    let set = SoundSet { head, table, work };
+    let found = set.find(number, out.len());
+    clear(work, head.used as usize);
+    let row = found?;
+    let arity = head.arity as usize;
+    out[..arity].copy_from_slice(&row[..arity]);
+    Ok(())
 }

@@ -5,6 +5,7 @@ use mathlib.Core.Path.{◌∙◌, ◌≡◌, ap, sym}
 use Prim.Native.Nat.{◌≤◌, ℕ}
 use borrow.Author.Tests.{leb-true}
 use lib.ListN.{drop, length}
+use Rattle.std.specs.Prelude.{Result, Ok, Err}
 use Rattle.paper.specs.declared.Head.{Head}
 use Rattle.paper.specs.declared.Record.{Record}
 use Rattle.paper.specs.declared.Refusal.{Refusal}
@@ -15,16 +16,15 @@ use Rattle.laws.specs.QuestionCauses.{Sound as SoundSet}
 use Rattle.laws.proofs.Replies.{Passes, answered, refused_append, unless_append}
 use Rattle.laws.proofs.SoundTest.{sound_is}
 use Rattle.sound.specs.Face.{Weighs}
-use Rattle.sound.specs.Weights.{Weighed, says_weighed, weighed_work, weighing, weights}
-use Rattle.sound.specs.declared.Weighed.TheVariants.{Refused, Sound}
+use Rattle.sound.specs.Weights.{says_weighed, weighed_work, weighing, weights}
 use Rattle.sound.proofs.Cells.{behind_cells, weighed_length}
 
-module _ {h : Head} {table : List Record} {work work' : List ℕ} {r : Weighed} (W : Weighs h table work r work') where
+module _ {h : Head} {table : List Record} {work work' : List ℕ} {r : Result (Unit {0}) Refusal} (W : Weighs h table work r work') where
   abbrev tests : List Test
   tests = ask_tests h table (length work)
 
   -- ---- the set is sound
-  module _ (said : r ≡ Sound) where
+  module _ (said : r ≡ Ok tt) where
     passed : weighing h table (length work) ≡ answer tt
     passed = sym W.answer ∙ ap says_weighed said
 
@@ -51,7 +51,7 @@ module _ {h : Head} {table : List Record} {work work' : List ℕ} {r : Weighed} 
     sound_reply more a = unless_append tests more a sound_passes
 
   -- ---- it is refused
-  module _ {why : Refusal} (said : r ≡ Refused why) {A : Type 0} (more : List Test) (a : A) where
+  module _ {why : Refusal} (said : r ≡ Err why) {A : Type 0} (more : List Test) (a : A) where
     refusal : weighing h table (length work) ≡ refused (no_of why)
     refusal = sym W.answer ∙ ap says_weighed said
 

@@ -1,90 +1,89 @@
--- The rows of a record by the weights before it, kind by kind; and that they are few.
-use mathlib.Core.Bool.{Bool, ◌&&◌, and-false, cond, false, true}
+-- The rows of a record by the weights before it, kind by kind: first what each kind has, then which kind a record has that has some.
+use mathlib.Core.Bool.{Bool, ◌&&◌, cond, false, true}
 use mathlib.Core.List.{List}
+use mathlib.Core.Logic.{◌⊎◌, inl, inr}
 use mathlib.Core.Path.{◌≡◌, refl}
-use Prim.Native.Nat.{◌*◌, ◌+◌, ◌<◌, ◌≤◌, ℕ}
+use Prim.Native.Nat.{◌<◌, ◌≤◌, ℕ}
 use native.Mathlib.Omega.{arith}
-use borrow.Author.Tests.{eq-eqb, le-ltb, leb-true, lt-ltb, ne_eqb}
-use lib.Dec.{eqb, leb, ltb}
+use borrow.Author.Tests.{eq-eqb, eqb-true, le-leb, leb-true, lt-ltb, ltb-true, ne_eqb}
+use lib.Dec.{eqb, ltb}
 use lib.ListN.{get_or}
+use Rattle.std.specs.Prelude.{Option, Some}
 use Rattle.paper.specs.declared.Record.{Record}
-use Rattle.paper.specs.Sound.{apart, most_rows}
-use Rattle.sound.specs.OneRecord.{if_few, product_rows, rows_by, single_rows, union_rows}
-use Rattle.sound.specs.Weights.{flag_in, rows_in}
+use Rattle.paper.specs.Sound.{most_rows}
+use Rattle.laws.proofs.Lists.{both_true}
+use Rattle.sound.specs.OneRecord.{before, given, if_few, of_both, product_rows, rows_by, single_rows, union_rows}
+
+-- ---- tests that leave nothing where they fail
+pub given_some : {A : Type 0} {c : Bool} {found : Option A} {x : A} → given c found ≡ Some x → (c ≡ true) × (found ≡ Some x)
+given_some {c = true} e = (refl, e)
+given_some {c = false} e = cc
+
+pub few_some : {rows n : ℕ} → if_few rows ≡ Some n → (rows ≤ most_rows) × (rows ≡ n)
+few_some {rows} {n} e =
+    let (few, is) = given_some e in
+    (leb-true rows most_rows few, (cc))
+
+pub few_is : (n : ℕ) → n ≤ most_rows → if_few n ≡ Some n
+few_is n h = rw (le-leb n most_rows h)
 
 module _ (r : Record) (at : ℕ) (weights : List ℕ) where
-  abbrev left : ℕ
+  abbrev pub left : ℕ
   left = get_or weights r.left 0
 
-  abbrev right : ℕ
+  abbrev pub right : ℕ
   right = get_or weights r.right 0
 
-  pub by_single : r.kind ≡ 1 → single_rows r ≡ rows_by r at weights
+  -- ---- what each kind has
+  pub by_single : r.kind ≡ 1 → rows_by r at weights ≡ single_rows r
   unfolding rows_by
   by_single e = rw (eq-eqb r.kind 1 e)
 
-  pub left_later : (r.kind ≡ 1 → ⊥) → at ≤ r.left → 0 ≡ rows_by r at weights
-  unfolding rows_by
-  left_later n h = rw (ne_eqb r.kind 1 n, le-ltb r.left at h)
-
-  pub right_later : (r.kind ≡ 1 → ⊥) → at ≤ r.right → 0 ≡ rows_by r at weights
-  unfolding rows_by
-  right_later n h = rw (ne_eqb r.kind 1 n, le-ltb r.right at h, and-false (ltb r.left at))
-
   module _ (before-left : r.left < at) (before-right : r.right < at) where
-    pub by_union : r.kind ≡ 2 → union_rows r.flag left right ≡ rows_by r at weights
+    pub by_union : r.kind ≡ 2 → rows_by r at weights ≡ union_rows r.flag left right
     unfolding rows_by
     by_union e =
-        rw (ne_eqb r.kind 1 (λ w. omega arith), lt-ltb r.left at before-left, lt-ltb r.right at before-right, eq-eqb r.kind 2 e)
+        rw (ne_eqb r.kind 1 (λ w. omega arith), eq-eqb r.kind 2 e, lt-ltb r.left at before-left, lt-ltb r.right at before-right)
 
-    pub by_product : r.kind ≡ 3 → product_rows r.flag left right ≡ rows_by r at weights
+    pub by_product : r.kind ≡ 3 → rows_by r at weights ≡ product_rows r.flag left right
     unfolding rows_by
     by_product e =
         rw (
           ne_eqb r.kind 1 (λ w. omega arith),
-          lt-ltb r.left at before-left,
-          lt-ltb r.right at before-right,
           ne_eqb r.kind 2 (λ w. omega arith),
           eq-eqb r.kind 3 e,
-        )
-
-    pub by_none : (r.kind ≡ 1 → ⊥) → (r.kind ≡ 2 → ⊥) → (r.kind ≡ 3 → ⊥) → 0 ≡ rows_by r at weights
-    unfolding rows_by
-    by_none n m o =
-        rw (
-          ne_eqb r.kind 1 n,
           lt-ltb r.left at before-left,
           lt-ltb r.right at before-right,
-          ne_eqb r.kind 2 m,
-          ne_eqb r.kind 3 o,
         )
 
--- ---- few rows
-few_cond : (c : Bool) (m n : ℕ) → m ≤ most_rows → n ≤ most_rows → cond c m n ≤ most_rows
-few_cond true m n h g = h
-few_cond false m n h g = g
+  -- ---- which kind has some
+  module _ (n : ℕ) where
+    abbrev pub HasBoth : (ℕ → ℕ → Option ℕ) → Type 0
+    HasBoth rows = (r.left < at) × (r.right < at) × (rows left right ≡ Some n)
 
-pub few_if : (n : ℕ) → if_few n ≤ most_rows
-few_if n = go (leb n most_rows) refl
-  where
-    go : (c : Bool) → leb n most_rows ≡ c → cond c n 0 ≤ most_rows
-    go true e = leb-true n most_rows e
-    go false e = omega arith
+    abbrev pub HasRows : Type 0
+    HasRows =
+        ((r.kind ≡ 1) × (single_rows r ≡ Some n))
+        ⊎ (((r.kind ≡ 2) × HasBoth (union_rows r.flag)) ⊎ ((r.kind ≡ 3) × HasBoth (product_rows r.flag)))
 
-few_union : (flag left right : ℕ) → union_rows flag left right ≤ most_rows
-few_union flag left right =
-    few_cond (eqb (flag_in left) flag && eqb (flag_in right) flag) _ 0 (few_if (rows_in left + rows_in right)) (omega arith)
+    both : (rows : ℕ → ℕ → Option ℕ) → of_both rows (before r at weights) ≡ Some n → HasBoth rows
+    both rows e = go (ltb r.left at && ltb r.right at) refl e
+      where
+        go : (c : Bool) → ltb r.left at && ltb r.right at ≡ c → of_both rows (given c (Some (left, right))) ≡ Some n → HasBoth rows
+        go true is e' = let (l, m) = both_true (ltb r.left at) (ltb r.right at) is in (ltb-true r.left at l, ltb-true r.right at m, e')
+        go false is e' = cc
 
-few_product : (flag left right : ℕ) → product_rows flag left right ≤ most_rows
-few_product flag left right =
-    few_cond (apart (flag_in left) (flag_in right) && eqb (flag_in left + flag_in right) flag) _ 0 (few_if (rows_in left * rows_in right)) (omega arith)
-
-pub rows_within : (r : Record) (at : ℕ) (weights : List ℕ) → rows_by r at weights ≤ most_rows
-unfolding rows_by
-rows_within r at weights =
-    let left = get_or weights r.left 0 in
-    let right = get_or weights r.right 0 in
-    few_cond (eqb r.kind 1) (single_rows r) _ (few_cond (eqb r.left 0 && eqb r.right 0) 1 0 (omega arith) (omega arith))
-    (few_cond (ltb r.left at && ltb r.right at) _ 0
-    (few_cond (eqb r.kind 2) _ _ (few_union r.flag left right) (few_cond (eqb r.kind 3) _ 0 (few_product r.flag left right) (omega arith)))
-    (omega arith))
+    pub has_rows : rows_by r at weights ≡ Some n → HasRows
+    unfolding rows_by
+    has_rows e = go (eqb r.kind 1) refl (eqb r.kind 2) refl e
+      where
+        go : (single : Bool) → eqb r.kind 1 ≡ single → (union : Bool) → eqb r.kind 2 ≡ union
+            → cond single (single_rows r)
+            (cond union (of_both (union_rows r.flag) (before r at weights))
+            (given (eqb r.kind 3) (of_both (product_rows r.flag) (before r at weights)))) ≡ Some n
+            → HasRows
+        go true is union is' e' = inl (eqb-true r.kind 1 is, e')
+        go false is true is' e' = inr (inl (eqb-true r.kind 2 is', both (union_rows r.flag) e'))
+        go false is false is' e' =
+            let (is'', some) = given_some e' in
+            inr (inr (eqb-true r.kind 3 is'', both (product_rows r.flag) some))

@@ -1,12 +1,8 @@
--- A weight, taken apart: its rows and its flag, which is below 16. It is 0 exactly where there is no row.
-use mathlib.Core.Bool.{Bool, cond, false, true}
-use mathlib.Core.Path.{◌≡◌, refl}
+-- A weight, taken apart: its rows and its flag, which is below 16.
+use mathlib.Core.Path.{◌≡◌}
 use Prim.Native.Nat.{◌*◌, ◌+◌, ◌<◌, ◌^◌, ◌≤◌, ℕ}
 use native.Mathlib.Nat.{pow-le-pow_right}
 use native.Mathlib.Omega.{arith}
-use borrow.Author.Tests.{eqb-true, ne_eqb}
-use lib.Dec.{eqb}
-use Rattle.sound.specs.OneRecord.{weight_for}
 use Rattle.sound.specs.Weights.{flag_in, rows_in}
 
 -- a flag of an arity up to 4
@@ -21,15 +17,3 @@ module _ (rows flag : ℕ) (low : flag < 16) where
 
   pub flag_in_lem : flag_in (16 * rows + flag) ≡ flag
   flag_in_lem = omega arith
-
--- ---- rows or none
-module _ (flag rows : ℕ) where
-  pub some_weight : (rows ≡ 0 → ⊥) → weight_for flag rows ≡ 16 * rows + flag
-  some_weight some = rw (ne_eqb rows 0 some)
-
-  pub no_weight : weight_for flag rows ≡ 0 → rows ≡ 0
-  no_weight = go (eqb rows 0) refl
-    where
-      go : (c : Bool) → eqb rows 0 ≡ c → cond c 0 (16 * rows + flag) ≡ 0 → rows ≡ 0
-      go true e none = eqb-true rows 0 e
-      go false e none = omega arith

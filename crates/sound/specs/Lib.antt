@@ -1,5 +1,5 @@
 pub mod Weights
-pub mod Verdicts
+pub mod Questions
 pub mod Face
 pub mod OneRecord
 pub mod Passing

@@ -1,19 +1,12 @@
--- The pass over all used records: what it asks for, and what it leaves.
-use Rattle.std.specs.Prelude.{true, false, ◌&&◌, List, [], ◌≡◌, ℕ, ◌≤◌, ◌<◌, ltb, length, get_or, take}
+-- The pass over all used records: what it leaves.
+use Rattle.std.specs.Prelude.{Bool, true, false, List, [], ◌≡◌, ℕ, ◌≤◌, ◌<◌, length, get_or, replicate}
+use Rattle.paper.specs.declared.Head.{Head}
 use Rattle.paper.specs.declared.Record.{Record}
-use Rattle.paper.specs.Records.{listings}
-use Rattle.paper.specs.Sound.{entry, most_rows}
+use Rattle.paper.specs.Records.{listings, used_of}
+use Rattle.paper.specs.Refusals.{over}
+use Rattle.paper.specs.Sound.{entry, most_rows, sound}
 use Rattle.laws.specs.QuestionCauses.{SoundAt}
-use Rattle.sound.specs.OneRecord.{State}
-use Rattle.sound.specs.Weights.{weight}
-
--- the pass begins at the first record, and goes on unless something has failed or there is none
-pub record Ready (table : List Record) (s : State) (work : List ℕ) : Type 0 where
-  pub first : s.at ≡ 0
-  pub goes : s.going ≡ s.sound && ltb 0 s.used
-  pub places : s.sound ≡ true → s.arity ≤ 4
-  pub entries : s.sound ≡ true → s.used ≤ length table
-  pub room : s.sound ≡ true → s.used ≤ length work
+use Rattle.sound.specs.Weights.{weight, weights}
 
 -- record k is sound, and lists few rows
 pub record SoundRecord (arity nodes : ℕ) (used : List Record) (k : ℕ) : Type 0 where
@@ -26,11 +19,17 @@ pub record Weighing (arity nodes : ℕ) (used : List Record) (n : ℕ) (work wor
   pub weighed : (k : ℕ) → k < n → get_or work' k 0 ≡ weight (get_or (listings arity used) k []) (entry used k)
   pub kept : (k : ℕ) → n ≤ k → get_or work' k 0 ≡ get_or work k 0
 
-abbrev pub AllSound : List Record → State → Type 0
-AllSound table s = (k : ℕ) → k < s.used → SoundRecord s.arity s.nodes (take s.used table) k
+abbrev pub AllSound : Head → List Record → Type 0
+AllSound h table = (k : ℕ) → k < h.used → SoundRecord h.arity h.nodes (used_of h table) k
 
-pub record Passed (table : List Record) (s : State) (work : List ℕ) (e : State) (work' : List ℕ) : Type 0 where
-  pub passes : e.sound ≡ true → (s.sound ≡ true) × Weighing s.arity s.nodes (take s.used table) s.used work work'
-  pub fails : e.sound ≡ false → s.sound ≡ true → AllSound table s → ⊥
-  pub kept : (k : ℕ) → s.used ≤ k → get_or work' k 0 ≡ get_or work k 0
-  pub unmoved : s.sound ≡ false → work' ≡ work
+-- whether all used records are sound. What is behind their cells stays
+pub record Passed (h : Head) (table : List Record) (work : List ℕ) (all : Bool) (work' : List ℕ) : Type 0 where
+  pub passes : all ≡ true → Weighing h.arity h.nodes (used_of h table) h.used work work'
+  pub fails : all ≡ false → AllSound h table → ⊥
+  pub kept : (k : ℕ) → h.used ≤ k → get_or work' k 0 ≡ get_or work k 0
+
+-- whether the set is sound
+pub record Judged (h : Head) (table : List Record) (work : List ℕ) (is_sound : Bool) (work' : List ℕ) : Type 0 where
+  pub right : is_sound ≡ sound h table
+  pub weighed : is_sound ≡ true → work' ≡ over (weights h table) work
+  pub kept : over (replicate h.used 0) work' ≡ over (replicate h.used 0) work

@@ -1,19 +1,18 @@
 -- What `weigh` tells, and what it leaves in work for a sound set: one number a record used, 16 times the rows that the record lists and
 -- its flag, which is below 16.
-use Rattle.std.specs.Prelude.{List, [], ◌∷◌, ℕ, ◌+◌, ◌*◌, ◌/◌, ◌%◌, length}
+use Rattle.std.specs.Prelude.{List, [], ◌∷◌, ℕ, ◌+◌, ◌*◌, ◌/◌, ◌%◌, Result, length}
 use Rattle.paper.specs.declared.Record.{Record}
 use Rattle.paper.specs.declared.Head.{Head}
 use Rattle.paper.specs.Row.{Row}
 use Rattle.paper.specs.Records.{listings, used_of}
 use Rattle.paper.specs.Questions.{question_work}
 use Rattle.paper.specs.Refusals.{Reply, refused, answer, unless, ask_tests, over, work_after}
-use Rattle.paper.specs.Answers.{no_of}
-pub use Rattle.sound.specs.declared.Weighed.{Weighed}
-use Rattle.sound.specs.declared.Weighed.TheVariants as WeighedIs
+use Rattle.paper.specs.declared.Refusal.{Refusal}
+use Rattle.paper.specs.Answers.{no_of, says}
 
-abbrev pub says_weighed : Weighed → Reply (Unit {0})
-says_weighed WeighedIs.Sound = answer tt
-says_weighed (WeighedIs.Refused r) = refused (no_of r)
+-- sound, or what the refusal says
+abbrev pub says_weighed : Result (Unit {0}) Refusal → Reply (Unit {0})
+says_weighed = says no_of
 
 abbrev pub weight : List Row → Record → ℕ
 weight rows r = 16 * length rows + r.flag

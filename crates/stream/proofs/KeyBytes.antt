@@ -11,33 +11,33 @@ use lib.ListN.{get_or, length}
 use Rattle.paper.specs.Query.{is_rule_kind}
 use Rattle.paper.specs.Stream.{StreamRecord, body_length, number}
 use Rattle.laws.proofs.Lists.{or_cases}
-use Rattle.stream.specs.Keys.{WholeAt, ends_of, flags_of, key_of}
-use Rattle.stream.specs.Positions.{record_at}
+use Rattle.stream.specs.Keys.{ends_of, flags_of, key_of}
+use Rattle.stream.specs.Positions.{after, record_at}
 use Rattle.stream.specs.Reading.{QueryFacts}
 use Rattle.stream.proofs.Positions.{number_byte}
 
+-- ---- the bytes
+module _ (input : List ℕ) (at : ℕ) (inside : after input at ≤ length input) where
+  module _ (rule : is_rule_kind (get_or input at 0) ≡ true) where
+    kinds : (get_or input at 0 ≡ 17) ⊎ (get_or input at 0 ≡ 18)
+    kinds =
+        ⊎_elim (λ e. inl (eqb-true (get_or input at 0) 17 e)) (λ e. inr (eqb-true (get_or input at 0) 18 e))
+        (or_cases (eqb (get_or input at 0) 17) (eqb (get_or input at 0) 18) rule)
+
+    pub rule_long : at + 4 ≤ length input
+    rule_long = ⊎_elim (λ e. omega (arith, inside, ap body_length e)) (λ e. omega (arith, inside, ap body_length e)) kinds
+
+    pub branch_long : (get_or input at 0 ≡ 17 → ⊥) → (get_or input at 0 ≡ 18) × (at + 6 ≤ length input)
+    branch_long n = ⊎_elim (λ e. absurd (n e)) (λ e. (e, omega (arith, inside, ap body_length e))) kinds
+
+  pub state_long : get_or input at 0 ≡ 19 → at + 2 ≤ length input
+  state_long e = omega (arith, inside, ap body_length e)
+
+-- ---- the key
 module _ (input : List ℕ) (f : QueryFacts) (at : ℕ) where
   abbrev r : StreamRecord
   r = record_at input at
 
-  -- ---- the bytes
-  module _ (k : WholeAt input f at) where
-    module _ (rule : is_rule_kind (get_or input at 0) ≡ true) where
-      kinds : (get_or input at 0 ≡ 17) ⊎ (get_or input at 0 ≡ 18)
-      kinds =
-          ⊎_elim (λ e. inl (eqb-true (get_or input at 0) 17 e)) (λ e. inr (eqb-true (get_or input at 0) 18 e))
-          (or_cases (eqb (get_or input at 0) 17) (eqb (get_or input at 0) 18) rule)
-
-      pub rule_long : at + 4 ≤ length input
-      rule_long = ⊎_elim (λ e. omega (arith, k.inside, ap body_length e)) (λ e. omega (arith, k.inside, ap body_length e)) kinds
-
-      pub branch_long : (get_or input at 0 ≡ 17 → ⊥) → (get_or input at 0 ≡ 18) × (at + 6 ≤ length input)
-      branch_long n = ⊎_elim (λ e. absurd (n e)) (λ e. (e, omega (arith, k.inside, ap body_length e))) kinds
-
-    pub state_long : get_or input at 0 ≡ 19 → at + 2 ≤ length input
-    state_long e = omega (arith, k.inside, ap body_length e)
-
-  -- ---- the key
   -- of an accepting state
   pub state_bytes : get_or input at 0 ≡ 19 → get_or input (at + 1) 0 ≡ key_of f r
   state_bytes e = rw (ap (λ n. eqb n 19) e, number_byte input at 19 0 (at + 1) e (omega arith) (omega arith)) refl

@@ -5,12 +5,13 @@ use mathlib.Core.Bool.{false, false≢true, true}
 use mathlib.Core.List.{List}
 use mathlib.Core.Logic.{◌⊎◌, inl, inr, ⊎_elim}
 use mathlib.Core.Path.{◌∙◌, ◌≡◌, ap, refl, subst, sym}
-use Prim.Native.Nat.{◌+◌, ◌<◌, ◌≤◌, suc, ℕ}
+use Prim.Native.Nat.{◌<◌, ◌≤◌, suc, ℕ}
 use native.Mathlib.Omega.{arith}
 use borrow.Author.Tests.{eq-eqb, eqb-false, eqb-true, ltb-false, ltb-true, ne_eqb}
 use lib.Dec.{eqb, ltb}
 use lib.ListN.{drop, get_or, length, length-set, set}
 use lib.Seq.{get_or-set_other, get_or-set_same}
+use Rattle.std.specs.Prelude.{None, Some}
 use Rattle.paper.specs.Lists.{has}
 use Rattle.paper.specs.Query.{accepting_of}
 use Rattle.paper.specs.Questions.{has_place}
@@ -97,24 +98,11 @@ pub record Linked (input : List ℕ) (from n : ℕ) (lists last : List ℕ) : Ty
   pub lasts : (s : ℕ) → s < symbols → Last input from n lists s (get_or last s 0)
   pub cells : (c s start : ℕ) → s < symbols → Cell input from n c s start → (c ≡ get_or last s 0) ⊎ Seeks input start s (get_or lists c 0)
 
--- ---- no record passed: each symbol below m has no rule
-abbrev pub Unlinked : ℕ → ℕ → List ℕ → List ℕ → Type 0
-Unlinked end m lists last = (s : ℕ) → s < m → (get_or lists s 0 ≡ end) × (get_or last s 0 ≡ s)
+-- ---- no record passed: no symbol has a rule
+abbrev Unlinked : ℕ → List ℕ → List ℕ → Type 0
+Unlinked end lists last = (s : ℕ) → s < symbols → (get_or lists s 0 ≡ end) × (get_or last s 0 ≡ s)
 
--- one more symbol
-pub unlinked_more : (end m : ℕ) (lists last : List ℕ) → Unlinked end m lists last → m < length lists → m < length last
-    → Unlinked end (m + 1) (set lists m end) (set last m m)
-unlinked_more end m lists last h a b s l = ⊎_elim (λ e. same (eqb-true s m e)) (λ e. earlier (eqb-false s m e)) (which (eqb s m))
-  where
-    same : s ≡ m → (get_or (set lists m end) s 0 ≡ end) × (get_or (set last m m) s 0 ≡ s)
-    same e = rw e (get_or-set_same lists m end 0 a, get_or-set_same last m m 0 b)
-
-    earlier : (s ≡ m → ⊥) → (get_or (set lists m end) s 0 ≡ end) × (get_or (set last m m) s 0 ≡ s)
-    earlier n =
-        (get_or-set_other lists m s end 0 n ∙ (h s (omega (arith, n))).0, get_or-set_other last m s m 0 n ∙ (h s (omega (arith, n))).1)
-
--- all symbols
-linked_none : (input : List ℕ) (from : ℕ) (lists last : List ℕ) → Unlinked (length input) symbols lists last → Linked input from 0 lists last
+linked_none : (input : List ℕ) (from : ℕ) (lists last : List ℕ) → Unlinked (length input) lists last → Linked input from 0 lists last
 linked_none input from lists last h = record {
   lasts = λ s b.
       subst (Last input from 0 lists s) (sym (h s b).1)
@@ -145,7 +133,13 @@ module _ (input : List ℕ) (from n : ℕ) (lists last : List ℕ) (k : Linked i
   }
 
   -- a rule of symbol x: the last cell of x tells it, and its own cell is the last one
-  module _ (x : ℕ) (low : x < symbols) (is : SymbolAt input at x) (long : length last ≡ symbols) (room : cell_of from at < length lists) where
+  module _ (x : ℕ) (it : SymbolAt input at (Some x)) (long : length last ≡ symbols) (room : cell_of from at < length lists) where
+    low : x < symbols
+    low = it.0
+
+    is : (s : ℕ) → s < symbols → is_for s (record_at input at) ≡ eqb x s
+    is = it.1
+
     abbrev old : ℕ
     old = get_or last x 0
 
@@ -263,7 +257,7 @@ pub record Going (input : List ℕ) (from size at : ℕ) (lists last : List ℕ)
   pub long : length last ≡ symbols
   pub linked : Linked input from n lists last
 
-pub going_starts : (input : List ℕ) (from : ℕ) (lists last : List ℕ) → length last ≡ symbols → Unlinked (length input) symbols lists last
+pub going_starts : (input : List ℕ) (from : ℕ) (lists last : List ℕ) → length last ≡ symbols → Unlinked (length input) lists last
     → Going input from (length lists) from lists last
 going_starts input from lists last long h =
     record { n = 0; here = refl; sized = refl; long = long; linked = linked_none input from lists last h }
@@ -285,35 +279,32 @@ module _ (input : List ℕ) (from size at : ℕ) (lists last : List ℕ) (k : Go
     last_before s b =
         subst (λ p. get_or last s 0 < cell_of from p) (sym k.here) (last_low input from k.n lists last k.linked reached s b)
 
-    module _ (x to : ℕ) (is : SymbolAt input at x) (ends : to ≡ after input at) where
-      its_symbol : SymbolAt input (place input from k.n) x
-      its_symbol = subst (λ p. SymbolAt input p x) k.here is
-
+    module _ (to : ℕ) (ends : to ≡ after input at) where
       next_place : to ≡ place input from (suc k.n)
       next_place = ends ∙ ap (after input) k.here
 
       -- one more record, which is no rule that is listed
-      pub goes_past : symbols ≤ x → Going input from size to lists last
-      goes_past h = record {
+      pub goes_past : SymbolAt input at None → Going input from size to lists last
+      goes_past is = record {
         n = suc k.n;
         here = next_place;
         sized = k.sized;
         long = k.long;
-        linked = linked_on input from k.n lists last k.linked reached (λ s b. its_symbol s b ∙ ne_eqb x s (λ e. omega arith));
+        linked = linked_on input from k.n lists last k.linked reached (subst (λ p. SymbolAt input p None) k.here is);
       }
 
       -- or is one
-      pub goes_on : Room input from size → x < symbols → (cell : ℕ) (lists' last' : List ℕ) → cell ≡ cell_of from at
+      pub goes_on : Room input from size → (x : ℕ) → SymbolAt input at (Some x) → (cell : ℕ) (lists' last' : List ℕ) → cell ≡ cell_of from at
           → lists' ≡ set (set lists (get_or last x 0) at) cell (get_or lists (get_or last x 0) 0) → last' ≡ set last x cell
           → Going input from size to lists' last'
-      goes_on r low cell lists' last' c e f = record {
+      goes_on r x is cell lists' last' c e f = record {
         n = suc k.n;
         here = next_place;
         sized = rw e (length-set (set lists (get_or last x 0) at) cell _ ∙ length-set lists (get_or last x 0) at ∙ k.sized);
         long = rw f (length-set last x cell ∙ k.long);
         linked =
             rw (e, f, c, k.here)
-            (linked_more input from k.n lists last k.linked reached x low its_symbol k.long
+            (linked_more input from k.n lists last k.linked reached x (subst (λ p. SymbolAt input p (Some x)) k.here is) k.long
             (subst (λ p. cell_of from p < length lists) k.here (cell_room r)));
       }
 

@@ -1,96 +1,95 @@
 -- The query, record by record. First what the loop over the records behind the head keeps up, and what it answers where one is refused
 -- and where the input ends; then the head, and the two together.
-use mathlib.Core.Bool.{◌&&◌, cond, false, true}
+use mathlib.Core.Bool.{cond, false, true}
 use mathlib.Core.List.{List, [], ◌++◌, ◌∷◌, append_assoc, append-nil}
 use mathlib.Core.Logic.{⊎_elim}
 use mathlib.Core.Path.{◌∙◌, ◌≡◌, ap, ap₂, refl, subst, sym}
 use Prim.Native.Nat.{◌+◌, ◌<◌, ◌≤◌, ℕ}
 use native.Mathlib.Omega.{arith}
-use borrow.Author.Tests.{eqb-true, leb-true, ltb-false, ltb-true}
-use lib.Dec.{leb, ltb}
-use lib.ListN.{drop, get_or, length}
+use borrow.Author.Tests.{eqb-true, ltb-false, ltb-true}
+use lib.Dec.{ltb}
+use lib.ListN.{drop, get_or, length, length-append}
 use lib.Seq.{slice_empty}
 use Rattle.paper.specs.Query.{accepting_of, query_of, rules_of}
 use Rattle.paper.specs.Refusals.{No, StreamTest, Test, answer, at_each, head_tests, later_tests, query_end_tests, query_part, query_tests, refused, tests_at, unless}
 use Rattle.paper.specs.Stream.{StreamRecord, behind, body_length, number, records_of}
-use Rattle.laws.proofs.Lists.{both_true, which}
+use Rattle.laws.proofs.Lists.{which}
+use Rattle.laws.proofs.ReadQuery.{rules_append}
 use Rattle.laws.proofs.Replies.{Passes, answered, answers, refused_append, unless_append}
-use Rattle.stream.specs.OneRecord.{AtLaterRecord, BehindHead, QueryState, head_reply, later_reply, query_step, query_up_to, query_with}
+use Rattle.stream.specs.OneRecord.{head_reply, later_reply, query_with}
 use Rattle.stream.specs.Positions.{WholeBetween, after, record_at, records_between}
 use Rattle.stream.specs.Reading.{QueryFacts, query_facts, query_reply}
 use Rattle.stream.proofs.EachRecord.{first_refused, passes_more}
+use Rattle.stream.proofs.QuerySteps.{step_tests}
 use Rattle.stream.proofs.Positions.{behind_between, between_more, records_between_lem, records_here, records_none, whole_inside, whole_more, whole_none}
 
 -- the tests of one record behind the head
 abbrev tests_behind : QueryFacts → List StreamRecord → StreamRecord → List StreamTest
 tests_behind f before r = later_tests (query_with f before) r
 
--- ---- what holds after each record behind the head: they are whole records whose tests passed, and make the state
-pub record QuerySoFar (input : List ℕ) (f : QueryFacts) (s : QueryState) : Type 0 where
-  pub before : WholeBetween input f.rules s.at
-  pub passed : Passes (at_each (tests_behind f) f.rules [] (records_between input f.rules s.at))
-  pub state : s ≡ query_up_to input f s.at
+-- ---- what holds after each record behind the head: they are whole records whose tests passed, and so many of them are rules
+pub record QuerySoFar (input : List ℕ) (f : QueryFacts) (at rules : ℕ) : Type 0 where
+  pub before : WholeBetween input f.rules at
+  pub passed : Passes (at_each (tests_behind f) f.rules [] (records_between input f.rules at))
+  pub rules_are : rules ≡ length (rules_of (records_between input f.rules at))
 
 -- right behind the head there is none
 pub no_records : (input : List ℕ) (f : QueryFacts) → records_between input f.rules f.rules ≡ []
 no_records input f = ap records_of (slice_empty f.rules input)
 
-pub query_starts : (input : List ℕ) (f : QueryFacts) → f.rules ≤ length input → QuerySoFar input f (record { at = f.rules; rules = 0 })
+pub query_starts : (input : List ℕ) (f : QueryFacts) → f.rules ≤ length input → QuerySoFar input f f.rules 0
 query_starts input f h = record {
   before = whole_none input f.rules h;
   passed = subst (λ records. Passes (at_each (tests_behind f) f.rules [] records)) (sym (no_records input f)) tt;
-  state = λ i. record { at = f.rules; rules = ap (λ records. length (rules_of records)) (sym (no_records input f)) i };
+  rules_are = ap (λ records. length (rules_of records)) (sym (no_records input f));
 }
 
-module _ (input : List ℕ) (f : QueryFacts) (s : QueryState) (k : QuerySoFar input f s) where
+module _ (input : List ℕ) (f : QueryFacts) (at rules : ℕ) (k : QuerySoFar input f at rules) where
   abbrev before : List StreamRecord
-  before = records_between input f.rules s.at
+  before = records_between input f.rules at
 
   -- the next record stands behind them
-  stands : behind f.rules before ≡ s.at
-  stands = behind_between input f.rules s.at k.before
+  stands : behind f.rules before ≡ at
+  stands = behind_between input f.rules at k.before
 
-  all_records : records_of (drop f.rules input) ≡ before ++ records_of (drop s.at input)
-  all_records = records_between_lem input f.rules s.at k.before
+  all_records : records_of (drop f.rules input) ≡ before ++ records_of (drop at input)
+  all_records = records_between_lem input f.rules at k.before
 
-  module _ (here : s.at < length input) where
-    pub at_record : BehindHead input f → AtLaterRecord input f s
-    at_record h = record { head = h.head; before = k.before; state = k.state; here = here }
+  module _ (here : at < length input) where
+    abbrev r : StreamRecord
+    r = record_at input at
 
     -- one more record that passes
-    pub query_goes_on : (next : QueryState) → answer next ≡ query_step input f s.at → QuerySoFar input f next × (s.at < next.at)
-    query_goes_on next e =
-        let a = answered (tests_at s.at (tests_behind f before (record_at input s.at))) (sym e) in
-        subst (λ t. QuerySoFar input f t × (s.at < t.at)) a.1 (so_far a.0, omega arith)
+    pub query_goes_on : Passes (step_tests input f at) → (rules' : ℕ) → rules' ≡ rules + length (rules_of (r ∷ []))
+        → QuerySoFar input f (after input at) rules'
+    query_goes_on p rules' e = record {
+      before = whole_more input f.rules at k.before fits;
+      passed = rw all (passes_more (tests_behind f) f.rules before r k.passed p);
+      rules_are = rw (all, rules_append before (r ∷ [])) (omega (arith, length-append (rules_of before) (rules_of (r ∷ [])), k.rules_are));
+    }
       where
-        so_far : Passes (tests_at s.at (tests_behind f before (record_at input s.at))) → QuerySoFar input f (query_up_to input f (after input s.at))
-        so_far p = record {
-          before = whole_more input f.rules s.at k.before fits;
-          passed =
-              rw (between_more input f.rules s.at k.before fits) (passes_more (tests_behind f) f.rules before (record_at input s.at) k.passed p);
-          state = refl;
-        }
-          where
-            fits : after input s.at ≤ length input
-            fits = whole_inside input s.at here p.1.0
+        fits : after input at ≤ length input
+        fits = whole_inside input at here p.1.0
+
+        all : records_between input f.rules (after input at) ≡ before ++ (r ∷ [])
+        all = between_more input f.rules at k.before fits
 
     -- a record that is refused
-    pub query_refused : (n : No) → refused n ≡ query_step input f s.at → refused n ≡ later_reply input f
-    query_refused n e =
-        sym (first_refused (tests_behind f) f.rules before k.passed [] f (query_up_to input f (after input s.at)) (record_at input s.at) rest
-        (ap (λ at. unless (tests_at at (tests_behind f before (record_at input s.at))) (query_up_to input f (after input s.at))) stands ∙ sym e))
-        ∙ ap (λ ts. unless ts f) (append-nil (at_each (tests_behind f) f.rules [] (before ++ (record_at input s.at ∷ rest))))
-        ∙ ap (λ records. unless (at_each (tests_behind f) f.rules [] records) f) (sym (all_records ∙ ap (λ z. before ++ z) (records_here input s.at here)))
+    pub query_refused : {n : No} → unless (step_tests input f at) f ≡ refused n → refused n ≡ later_reply input f
+    query_refused e =
+        sym (first_refused (tests_behind f) f.rules before k.passed [] f f r rest (ap (λ place. unless (tests_at place (tests_behind f before r)) f) stands ∙ e))
+        ∙ ap (λ ts. unless ts f) (append-nil (at_each (tests_behind f) f.rules [] (before ++ (r ∷ rest))))
+        ∙ ap (λ records. unless (at_each (tests_behind f) f.rules [] records) f) (sym (all_records ∙ ap (λ z. before ++ z) (records_here input at here)))
       where
         rest : List StreamRecord
-        rest = records_of (drop (after input s.at) input)
+        rest = records_of (drop (after input at) input)
 
   -- the end of the input
-  pub query_ends : length input ≤ s.at → answer f ≡ later_reply input f
+  pub query_ends : length input ≤ at → answer f ≡ later_reply input f
   query_ends h =
       sym (answers (at_each (tests_behind f) f.rules [] before) f k.passed)
       ∙ ap (λ records. unless (at_each (tests_behind f) f.rules [] records) f)
-      (sym (all_records ∙ ap (λ z. before ++ z) (records_none input s.at h) ∙ append-nil before))
+      (sym (all_records ∙ ap (λ z. before ++ z) (records_none input at h) ∙ append-nil before))
 
 -- ---- the head
 -- the end of the query asks for a head, which is there
@@ -100,15 +99,15 @@ end_holds (t ∷ ts) n a = ap (λ z. cond t.1 z (refused t.0)) (end_holds ts n a
 
 -- behind a head with this arity and these states the tests are those behind it
 pub tests_behind_lem : (f : QueryFacts) (head : StreamRecord) → number head 0 ≡ f.arity → number head 1 ≡ f.states
-    → (at : ℕ) (before records : List StreamRecord)
-    → at_each query_tests at (head ∷ before) records ≡ at_each (tests_behind f) (behind at (head ∷ [])) before records
-tests_behind_lem f head a b at before [] = refl
-tests_behind_lem f head a b at before (r ∷ rs) =
-    ap₂ {C = List Test} (λ x y. x ++ y) (ap (λ Q. tests_at (behind at (head ∷ before)) (later_tests Q r)) query)
-    (tests_behind_lem f head a b at (before ++ (r ∷ [])) rs)
+    → (at : ℕ) (earlier records : List StreamRecord)
+    → at_each query_tests at (head ∷ earlier) records ≡ at_each (tests_behind f) (behind at (head ∷ [])) earlier records
+tests_behind_lem f head a b at earlier [] = refl
+tests_behind_lem f head a b at earlier (r ∷ rs) =
+    ap₂ {C = List Test} (λ x y. x ++ y) (ap (λ Q. tests_at (behind at (head ∷ earlier)) (later_tests Q r)) query)
+    (tests_behind_lem f head a b at (earlier ++ (r ∷ [])) rs)
   where
-    query : query_of (head ∷ before) ≡ query_with f before
-    query = λ i. record { arity = a i; states = b i; rules = rules_of before; accepting = accepting_of before }
+    query : query_of (head ∷ earlier) ≡ query_with f earlier
+    query = λ i. record { arity = a i; states = b i; rules = rules_of earlier; accepting = accepting_of earlier }
 
 module _ (input : List ℕ) (at : ℕ) where
   abbrev head : StreamRecord
@@ -154,18 +153,8 @@ module _ (input : List ℕ) (at : ℕ) where
     states : number head 1 ≡ facts.states
     states = ap (λ records. (query_of records).states) (sym (records_here input at inside))
 
-    -- a number of it that is tested to be 1 to n
-    at_most : (x n : ℕ) → leb 1 x && leb x n ≡ true → x ≤ n
-    at_most x n e = leb-true x n (both_true (leb 1 x) (leb x n) e).1
-
-    in_range_lem : BehindHead input facts
-    in_range_lem = record {
-      head = record {
-        few_places = omega (arith, arity, at_most (number head 0) 4 p.1.1.1.0);
-        few_states = omega (arith, states, at_most (number head 1) 16 p.1.1.1.1.0);
-      };
-      inside = omega (arith, two_numbers, whole_inside input at inside p.1.1.0);
-    }
+    records_inside : facts.rules ≤ length input
+    records_inside = omega (arith, two_numbers, whole_inside input at inside p.1.1.0)
 
     passed : query_reply input at ≡ later_reply input facts
     passed =
@@ -187,8 +176,8 @@ module _ (input : List ℕ) (at : ℕ) where
     read_head : Passes (tests_at at ((3, ltb at (length input)) ∷ head_tests head)) × (facts ≡ f)
     read_head = answered (tests_at at ((3, ltb at (length input)) ∷ head_tests head)) (sym e)
 
-    pub behind_head : BehindHead input f
-    behind_head = subst (BehindHead input) read_head.1 (in_range_lem read_head.0)
+    pub behind_head : f.rules ≤ length input
+    behind_head = subst (λ (g : QueryFacts). g.rules ≤ length input) read_head.1 (records_inside read_head.0)
 
     pub head_passed : later_reply input f ≡ query_reply input at
     head_passed = subst (λ g. later_reply input g ≡ query_reply input at) read_head.1 (sym (passed read_head.0))

@@ -1,14 +1,15 @@
 -- Symbols: a record is a rule of at most one, told by its first two bytes. Then the positions of records, one behind the other, and that
 -- the cell of each rule is its own.
-use mathlib.Core.Bool.{false, true}
+use mathlib.Core.Bool.{Bool, false, true}
 use mathlib.Core.List.{List}
 use mathlib.Core.Logic.{inl, inr, ⊎_elim}
-use mathlib.Core.Path.{◌∙◌, ◌≡◌, subst, sym}
+use mathlib.Core.Path.{◌∙◌, ◌≡◌, refl, subst, sym}
 use Prim.Native.Nat.{◌+◌, ◌<◌, ◌≤◌, suc, zero, ℕ}
 use native.Mathlib.Omega.{arith}
 use borrow.Author.Tests.{eq-eqb, eqb-false, eqb-true, ltb-false, ltb-true, ne_eqb}
 use lib.Dec.{eqb, ltb}
 use lib.ListN.{get_or, length}
+use Rattle.std.specs.Prelude.{None, Option, Some}
 use Rattle.paper.specs.Query.{is_rule_kind}
 use Rattle.paper.specs.Stream.{StreamRecord, number}
 use Rattle.laws.specs.StreamCauses.{RuleKind}
@@ -42,50 +43,47 @@ for_label s r e =
 pub one_symbol : (s t : ℕ) (r : StreamRecord) → is_for s r ≡ true → is_for t r ≡ true → s ≡ t
 one_symbol s t r e f = omega (arith, for_kind s r e, for_kind t r f, for_label s r e, for_label t r f)
 
--- no symbol is the number behind the last one
-none_behind : (s : ℕ) → s < symbols → eqb symbols s ≡ false
-none_behind s h = ne_eqb symbols s (λ e. omega arith)
-
 module _ (input : List ℕ) (at : ℕ) (inside : at < length input) where
   -- a record of another kind has none
-  no_symbol : (get_or input at 0 ≡ 17 → ⊥) → (get_or input at 0 ≡ 18 → ⊥) → SymbolAt input at symbols
+  no_symbol : (get_or input at 0 ≡ 17 → ⊥) → (get_or input at 0 ≡ 18 → ⊥) → SymbolAt input at None
   no_symbol a b s h =
       sym (other_kind input at (kind_for s) (label_for s) inside (λ e. ⊎_elim a b (rule_between (get_or input at 0) (omega arith) (omega arith))))
-      ∙ sym (none_behind s h)
 
   module _ (rule : RuleKind (get_or input at 0)) where
     -- a rule is judged by its label, where its kind is the symbol's
-    by_test : (x s : ℕ) → (get_or input at 0 ≡ kind_for s → eqb (get_or input (at + 1) 0) (label_for s) ≡ eqb x s)
-        → ((get_or input at 0 ≡ kind_for s → ⊥) → eqb x s ≡ false) → is_for s (record_at input at) ≡ eqb x s
+    by_test : (x : Bool) (s : ℕ) → (get_or input at 0 ≡ kind_for s → eqb (get_or input (at + 1) 0) (label_for s) ≡ x)
+        → ((get_or input at 0 ≡ kind_for s → ⊥) → x ≡ false) → is_for s (record_at input at) ≡ x
     by_test x s f g = ⊎_elim this other (which (eqb (get_or input at 0) (kind_for s)))
       where
-        this : eqb (get_or input at 0) (kind_for s) ≡ true → is_for s (record_at input at) ≡ eqb x s
+        this : eqb (get_or input at 0) (kind_for s) ≡ true → is_for s (record_at input at) ≡ x
         this e =
             let z : get_or input at 0 ≡ kind_for s = eqb-true (get_or input at 0) (kind_for s) e in
             sym (by_label input at (kind_for s) (label_for s) inside z (subst RuleKind z rule)) ∙ f z
 
-        other : eqb (get_or input at 0) (kind_for s) ≡ false → is_for s (record_at input at) ≡ eqb x s
+        other : eqb (get_or input at 0) (kind_for s) ≡ false → is_for s (record_at input at) ≡ x
         other e =
             let z : get_or input at 0 ≡ kind_for s → ⊥ = eqb-false (get_or input at 0) (kind_for s) e in
             sym (other_kind input at (kind_for s) (label_for s) inside z) ∙ sym (g z)
 
     -- with a label that is too high it has none
-    high_label : 63 < get_or input (at + 1) 0 → SymbolAt input at symbols
-    high_label h s b =
-        by_test symbols s (λ z. ne_eqb (get_or input (at + 1) 0) (label_for s) (λ e. omega arith) ∙ sym (none_behind s b)) (λ z. none_behind s b)
+    high_label : 63 < get_or input (at + 1) 0 → SymbolAt input at None
+    high_label h s b = by_test false s (λ z. ne_eqb (get_or input (at + 1) 0) (label_for s) (λ e. omega arith)) (λ z. refl)
 
     -- any other has that of its kind and label
-    symbol_here : get_or input (at + 1) 0 ≤ 63 → SymbolAt input at (symbol (get_or input at 0) (get_or input (at + 1) 0))
-    symbol_here h s b =
-        by_test (symbol (get_or input at 0) (get_or input (at + 1) 0)) s
-        (λ z.
-        iff_eq (eqb (get_or input (at + 1) 0) (label_for s)) (eqb (symbol (get_or input at 0) (get_or input (at + 1) 0)) s)
-        (λ w. eq-eqb _ s (omega (arith, eqb-true (get_or input (at + 1) 0) (label_for s) w)))
-        (λ w. eq-eqb (get_or input (at + 1) 0) (label_for s) (omega (arith, eqb-true (symbol (get_or input at 0) (get_or input (at + 1) 0)) s w))))
-        (λ z. ne_eqb _ s (λ w. z (let k = its_kind (get_or input at 0) (get_or input (at + 1) 0) rule h in omega (arith, k))))
+    symbol_here : get_or input (at + 1) 0 ≤ 63 → SymbolAt input at (Some (symbol (get_or input at 0) (get_or input (at + 1) 0)))
+    symbol_here h = (
+      symbol_low (get_or input at 0) (get_or input (at + 1) 0) rule h,
+      λ s b.
+          by_test (eqb (symbol (get_or input at 0) (get_or input (at + 1) 0)) s) s
+          (λ z.
+          iff_eq (eqb (get_or input (at + 1) 0) (label_for s)) (eqb (symbol (get_or input at 0) (get_or input (at + 1) 0)) s)
+          (λ w. eq-eqb _ s (omega (arith, eqb-true (get_or input (at + 1) 0) (label_for s) w)))
+          (λ w. eq-eqb (get_or input (at + 1) 0) (label_for s) (omega (arith, eqb-true (symbol (get_or input at 0) (get_or input (at + 1) 0)) s w))))
+          (λ z. ne_eqb _ s (λ w. z (let k = its_kind (get_or input at 0) (get_or input (at + 1) 0) rule h in omega (arith, k)))),
+    )
 
   -- so its first two bytes tell its symbol
-  pub symbol_told : (x : ℕ) → SymbolOf (get_or input at 0) (get_or input (at + 1) 0) x → SymbolAt input at x
+  pub symbol_told : (x : Option ℕ) → SymbolOf (get_or input at 0) (get_or input (at + 1) 0) x → SymbolAt input at x
   symbol_told x is = ⊎_elim leaf (λ a. ⊎_elim branch (λ b. none (eqb-false _ 17 a) (eqb-false _ 18 b)) (which (eqb (get_or input at 0) 18)))
       (which (eqb (get_or input at 0) 17))
     where

@@ -2,22 +2,24 @@
 use mathlib.Core.Bool.{Bool, ◌||◌, cond, false, true}
 use mathlib.Core.List.{List, [], ◌++◌, ◌∷◌}
 use mathlib.Core.Logic.{⊎_elim}
-use mathlib.Core.Path.{◌∙◌, ◌≡◌, ap, refl}
+use mathlib.Core.Path.{◌≡◌, refl}
 use Prim.Native.Nat.{◌+◌, ◌-◌, ◌<◌, ◌≤◌, max, suc, ℕ}
 use native.Mathlib.Omega.{arith}
 use borrow.Author.Tests.{eq-eqb, le-leb, le-ltb, lt-leb, lt-ltb, ltb-true, ne_eqb}
 use lib.Dec.{eqb, leb, ltb}
-use lib.ListN.{get_or, length, length-append}
+use lib.ListN.{get_or, length}
 use Rattle.paper.specs.Lists.{through}
-use Rattle.paper.specs.Refusals.{answer, no_at, refused}
+use Rattle.paper.specs.Refusals.{Test, no_at, refused, tests_at, tree_tests, unless}
 use Rattle.paper.specs.Stream.{StreamRecord, body_length, is_tree_kind, number}
 use Rattle.paper.specs.Tree.{Tree, grow, join, leaf, most_from, most_unjoined, unjoined}
 use Rattle.laws.specs.StreamCauses.{TreeKind}
 use Rattle.laws.proofs.Lists.{both_true, or_left, or_right}
+use Rattle.laws.proofs.Replies.{Passes}
 use Rattle.laws.proofs.StreamPlaces.{join_length, tree_kind, unjoined_snoc}
-use Rattle.stream.specs.OneRecord.{AtTreeRecord, TreeState, tree_step, tree_up_to}
+use Rattle.stream.specs.OneRecord.{is_tree_at}
 use Rattle.stream.specs.Positions.{after, record_at, records_between}
-use Rattle.stream.proofs.Positions.{between_more, cut_here, number_byte, whole_here}
+use Rattle.stream.specs.Reading.{tree_facts}
+use Rattle.stream.proofs.Positions.{cut_here, number_byte, whole_here}
 
 -- ---- subtrees unjoined
 -- a leaf is one more, and a branch that finds two makes one of them
@@ -44,7 +46,7 @@ few_from s [] = omega arith
 few_from s (r ∷ rs) = omega (arith, few_from (grow s r) rs)
 
 -- never are more unjoined than the most
-unjoined_most : (records : List StreamRecord) → length (unjoined records) ≤ most_unjoined records
+pub unjoined_most : (records : List StreamRecord) → length (unjoined records) ≤ most_unjoined records
 unjoined_most records = omega (arith, few_from ([], 0) records)
 
 join_few : (label n : ℕ) (ts : List Tree) → length (join label n ts) ≤ length ts
@@ -68,112 +70,79 @@ pub unjoined_nodes : (records : List StreamRecord) → length (unjoined records)
 unjoined_nodes records = omega (arith, few_through ([], 0) records)
 
 -- ---- the tests of one record
-module _ (input : List ℕ) (s : TreeState) (k : AtTreeRecord input s) where
+module _ (input : List ℕ) (at : ℕ) (here : is_tree_at input at ≡ true) where
   abbrev before : List StreamRecord
-  before = records_between input 0 s.at
+  before = records_between input 0 at
 
   -- the record stands in the input, is a leaf or a branch, and has one number
-  pub inside : s.at < length input
-  inside = ltb-true s.at (length input) (both_true (ltb s.at (length input)) (is_tree_kind (get_or input s.at 0)) k.here).0
+  pub inside : at < length input
+  inside = ltb-true at (length input) (both_true (ltb at (length input)) (is_tree_kind (get_or input at 0)) here).0
 
-  kind : TreeKind (get_or input s.at 0)
-  kind = tree_kind (get_or input s.at 0) (both_true (ltb s.at (length input)) (is_tree_kind (get_or input s.at 0)) k.here).1
+  pub kind : is_tree_kind (get_or input at 0) ≡ true
+  kind = (both_true (ltb at (length input)) (is_tree_kind (get_or input at 0)) here).1
 
-  pub one_number : body_length (get_or input s.at 0) ≡ 1
-  one_number = ⊎_elim (λ e. rw e refl) (λ e. rw e refl) kind
+  leaf_or_branch : TreeKind (get_or input at 0)
+  leaf_or_branch = tree_kind (get_or input at 0) kind
 
-  -- the state has the numbers of the records before
-  nodes : s.nodes ≡ length before
-  nodes = ap (λ (t : TreeState). t.nodes) k.state
+  pub one_number : body_length (get_or input at 0) ≡ 1
+  one_number = ⊎_elim (λ e. rw e refl) (λ e. rw e refl) leaf_or_branch
 
-  unjoined_now : s.unjoined ≡ length (unjoined before)
-  unjoined_now = ap (λ (t : TreeState). t.unjoined) k.state
+  label : number (record_at input at) 0 ≡ get_or input (at + 1) 0
+  label = number_byte input at (get_or input at 0) 0 (at + 1) refl (omega (arith, one_number)) (omega arith)
 
-  most : s.most ≡ most_unjoined before
-  most = ap (λ (t : TreeState). t.most) k.state
-
-  pub fewer_than_nodes : s.unjoined ≤ s.nodes
-  fewer_than_nodes = omega (arith, unjoined_nodes before, nodes, unjoined_now)
-
-  label : number (record_at input s.at) 0 ≡ get_or input (s.at + 1) 0
-  label = number_byte input s.at (get_or input s.at 0) 0 (s.at + 1) refl (omega (arith, one_number)) (omega arith)
+  abbrev pub step_tests : List Test
+  step_tests = tests_at at (tree_tests before (record_at input at))
 
   -- 2: the 4,096th tree kind
-  pub many_nodes : 4095 ≤ s.nodes → refused (no_at 2 s.at) ≡ tree_step input s.at
-  many_nodes h = rw (le-ltb (length before) 4095 (omega (arith, nodes))) refl
+  pub many_nodes : 4095 ≤ length before → unless step_tests (tree_facts input) ≡ refused (no_at 2 at)
+  many_nodes h = rw (le-ltb (length before) 4095 h) refl
 
-  module _ (few : s.nodes < 4095) where
-    few_before : ltb (length before) 4095 ≡ true
-    few_before = lt-ltb (length before) 4095 (omega (arith, nodes))
-
+  module _ (few : length before < 4095) where
     -- 1: the input is cut in the record
-    pub cut_record : length input < after input s.at → refused (no_at 1 s.at) ≡ tree_step input s.at
-    cut_record h = rw (few_before, cut_here input s.at inside h) refl
+    pub cut_record : length input < after input at → unless step_tests (tree_facts input) ≡ refused (no_at 1 at)
+    cut_record h = rw (lt-ltb (length before) 4095 few, cut_here input at inside h) refl
 
-    module _ (fits : after input s.at ≤ length input) where
+    module _ (fits : after input at ≤ length input) where
       -- 1: a label over 63
-      pub label_over : 63 < get_or input (s.at + 1) 0 → refused (no_at 1 s.at) ≡ tree_step input s.at
-      label_over h = rw (few_before, whole_here input s.at fits, lt-leb (number (record_at input s.at) 0) 63 (omega (arith, label))) refl
+      pub label_over : 63 < get_or input (at + 1) 0 → unless step_tests (tree_facts input) ≡ refused (no_at 1 at)
+      label_over h =
+          rw (lt-ltb (length before) 4095 few, whole_here input at fits, lt-leb (number (record_at input at) 0) 63 (omega (arith, label))) refl
 
-      module _ (low : get_or input (s.at + 1) 0 ≤ 63) where
-        low_label : leb (number (record_at input s.at) 0) 63 ≡ true
-        low_label = le-leb (number (record_at input s.at) 0) 63 (omega (arith, label))
+      module _ (low : get_or input (at + 1) 0 ≤ 63) where
+        low_label : leb (number (record_at input at) 0) 63 ≡ true
+        low_label = le-leb (number (record_at input at) 0) 63 (omega (arith, label))
 
-        -- a leaf, or a branch that finds two: the answer is the state that it makes
+        -- a leaf, or a branch that finds two, passes
         abbrev joins : Bool
-        joins = eqb (get_or input s.at 0) 1 || leb 2 (length (unjoined before))
+        joins = eqb (get_or input at 0) 1 || leb 2 (length (unjoined before))
 
-        passes : joins ≡ true → answer (tree_up_to input (after input s.at)) ≡ tree_step input s.at
-        passes e = rw (few_before, whole_here input s.at fits, low_label, e) refl
+        passes : joins ≡ true → Passes step_tests
+        passes e = (lt-ltb (length before) 4095 few, (whole_here input at fits, (low_label, (e, tt))))
 
-        next_state : (next u m : ℕ) → next ≡ after input s.at → u ≡ length (unjoined (before ++ (record_at input s.at ∷ [])))
-            → m ≡ max s.most u
-            → ◌≡◌ {A = TreeState} (record { at = next; nodes = s.nodes + 1; unjoined = u; most = m }) (tree_up_to input (after input s.at))
-        next_state next u m a b d = λ i. record {
-          at = a i;
-          nodes = nodes_next i;
-          unjoined = unjoined_next i;
-          most = most_next i;
-        }
-          where
-            all : records_between input 0 (after input s.at) ≡ before ++ (record_at input s.at ∷ [])
-            all = between_more input 0 s.at k.before fits
+        pub leaf_passes : get_or input at 0 ≡ 1 → Passes step_tests
+        leaf_passes e = passes (or_left (eqb (get_or input at 0) 1) (leb 2 (length (unjoined before))) (eq-eqb (get_or input at 0) 1 e))
 
-            nodes_next : s.nodes + 1 ≡ length (records_between input 0 (after input s.at))
-            nodes_next = rw all (omega (arith, length-append before (record_at input s.at ∷ []), nodes))
-
-            unjoined_next : u ≡ length (unjoined (records_between input 0 (after input s.at)))
-            unjoined_next = rw all b
-
-            most_next : m ≡ most_unjoined (records_between input 0 (after input s.at))
-            most_next = rw all (omega (arith, most_snoc before (record_at input s.at), most))
-
-        -- a leaf: one subtree more
-        pub leaf_next : (next m : ℕ) → next ≡ after input s.at → get_or input s.at 0 ≡ 1 → m ≡ max s.most (s.unjoined + 1)
-            → answer (record { at = next; nodes = s.nodes + 1; unjoined = s.unjoined + 1; most = m }) ≡ tree_step input s.at
-        leaf_next next m a e d =
-            ap answer (next_state next (s.unjoined + 1) m a (omega (arith, unjoined_leaf before (record_at input s.at) e, unjoined_now)) d)
-            ∙ passes (or_left (eqb (get_or input s.at 0) 1) (leb 2 (length (unjoined before))) (eq-eqb (get_or input s.at 0) 1 e))
+        pub branch_passes : 2 ≤ length (unjoined before) → Passes step_tests
+        branch_passes two =
+            passes (or_right (eqb (get_or input at 0) 1) (leb 2 (length (unjoined before))) (le-leb 2 (length (unjoined before)) two))
 
         -- 1: a branch with fewer than two unjoined
-        pub few_unjoined : (get_or input s.at 0 ≡ 1 → ⊥) → s.unjoined < 2 → refused (no_at 1 s.at) ≡ tree_step input s.at
-        few_unjoined no_leaf h = rw (few_before, whole_here input s.at fits, low_label, none) refl
+        pub few_unjoined : (get_or input at 0 ≡ 1 → ⊥) → length (unjoined before) < 2 → unless step_tests (tree_facts input) ≡ refused (no_at 1 at)
+        few_unjoined no_leaf h = rw (lt-ltb (length before) 4095 few, whole_here input at fits, low_label, none) refl
           where
             none : joins ≡ false
-            none = rw (ne_eqb (get_or input s.at 0) 1 no_leaf) (lt-leb 2 (length (unjoined before)) (omega (arith, unjoined_now)))
+            none = rw (ne_eqb (get_or input at 0) 1 no_leaf) (lt-leb 2 (length (unjoined before)) h)
 
-        -- a branch: one subtree less
-        pub branch_next : (next : ℕ) → next ≡ after input s.at → (get_or input s.at 0 ≡ 1 → ⊥) → 2 ≤ s.unjoined
-            → answer (record { at = next; nodes = s.nodes + 1; unjoined = s.unjoined - 1; most = s.most }) ≡ tree_step input s.at
-        branch_next next a no_leaf two =
-            ap answer (next_state next (s.unjoined - 1) s.most a fewer (omega (arith, unjoined_most before, unjoined_now, most)))
-            ∙ passes (or_right (eqb (get_or input s.at 0) 1) (leb 2 (length (unjoined before))) found)
-          where
-            found : leb 2 (length (unjoined before)) ≡ true
-            found = le-leb 2 (length (unjoined before)) (omega (arith, unjoined_now))
+  -- ---- how many are unjoined behind it, and the most ever
+  abbrev with_it : List StreamRecord
+  with_it = before ++ (record_at input at ∷ [])
 
-            branch_kind : get_or input s.at 0 ≡ 2
-            branch_kind = ⊎_elim (λ e. absurd (no_leaf e)) (λ e. e) kind
+  pub leaf_more : get_or input at 0 ≡ 1 → length (unjoined with_it) ≡ length (unjoined before) + 1
+  leaf_more e = omega (arith, unjoined_leaf before (record_at input at) e)
 
-            fewer : s.unjoined - 1 ≡ length (unjoined (before ++ (record_at input s.at ∷ [])))
-            fewer = omega (arith, unjoined_branch before (record_at input s.at) branch_kind (omega (arith, unjoined_now)), unjoined_now)
+  pub branch_fewer : (get_or input at 0 ≡ 1 → ⊥) → 2 ≤ length (unjoined before) → length (unjoined with_it) ≡ length (unjoined before) - 1
+  branch_fewer no_leaf two =
+      omega (arith, unjoined_branch before (record_at input at) (⊎_elim (λ e. absurd (no_leaf e)) (λ e. e) leaf_or_branch) two)
+
+  pub most_more : most_unjoined with_it ≡ max (most_unjoined before) (length (unjoined with_it))
+  most_more = most_snoc before (record_at input at)

@@ -1,11 +1,10 @@
 -- What the records behind the head say once, as a table of bits. First a key for each accepting state and for each kind and left side of a
 -- rule, with the query's own arity and states as radices, then the bits, then what the reading of the records keeps up.
-use Rattle.std.specs.Prelude.{Bool, Err, Ok, Result, ◌||◌, cond, true, List, ◌∷◌, map, ◌≡◌, ℕ, ◌+◌, ◌*◌, ◌/◌, ◌%◌, ◌^◌, ◌≤◌, eqb, get_or, length}
+use Rattle.std.specs.Prelude.{Bool, ◌||◌, cond, true, List, ◌∷◌, map, ◌≡◌, ℕ, ◌+◌, ◌*◌, ◌/◌, ◌%◌, ◌^◌, ◌<◌, ◌≤◌, eqb, get_or, length}
 use Rattle.paper.specs.Lists.{◌∈◌, has}
-use Rattle.paper.specs.declared.StreamRefusal.{StreamRefusal}
 use Rattle.paper.specs.Stream.{StreamRecord}
-use Rattle.stream.specs.OneRecord.{AtLaterRecord, HeadInRange, QueryState, fits}
-use Rattle.stream.specs.Positions.{after, record_at, records_between}
+use Rattle.stream.specs.OneRecord.{fits}
+use Rattle.stream.specs.Positions.{record_at}
 use Rattle.stream.specs.Reading.{QueryFacts}
 
 -- ---- how large it gets
@@ -13,13 +12,7 @@ use Rattle.stream.specs.Reading.{QueryFacts}
 abbrev pub word_bits : ℕ
 word_bits = 64
 
--- words of the three tables: the least that has a bit for each key of the query is taken
-abbrev pub small_table : ℕ
-small_table = 128
-
-abbrev pub middle_table : ℕ
-middle_table = 1041
-
+-- words of the largest table: it has a bit for each key of any query
 abbrev pub large_table : ℕ
 large_table = 4113
 
@@ -81,18 +74,7 @@ pub record TableOf (f : QueryFacts) (records : List StreamRecord) (said : List �
   pub fitting : (r : StreamRecord) → r ∈ records → fits f r ≡ true
   pub keys : (k : ℕ) → has_key said k ≡ has (map (key_of f) records) k
 
--- a record that fits stands behind the head, and the table has the keys of those before it
-pub record AtFittingRecord (input : List ℕ) (f : QueryFacts) (s : QueryState) (said : List ℕ) : Type 0 where
-  pub later : AtLaterRecord input f s
-  pub fitting : fits f (record_at input s.at) ≡ true
-  pub table : TableOf f (records_between input f.rules s.at) said
-
--- where the reading goes on, the table has the keys of the records up to there
-abbrev pub TableAfter : List ℕ → QueryFacts → Result QueryState StreamRefusal → List ℕ → Type 0
-TableAfter input f (Ok s) said = TableOf f (records_between input f.rules s.at) said
-TableAfter input f (Err why) said = Unit {0}
-
--- a whole record stands at the position, behind a head whose numbers are in range
-pub record WholeAt (input : List ℕ) (f : QueryFacts) (at : ℕ) : Type 0 where
-  pub head : HeadInRange f
-  pub inside : after input at ≤ length input
+-- a record that fits stands at the position
+pub record FittingAt (input : List ℕ) (f : QueryFacts) (at : ℕ) : Type 0 where
+  pub here : at < length input
+  pub fitting : fits f (record_at input at) ≡ true

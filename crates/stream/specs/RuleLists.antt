@@ -1,7 +1,7 @@
 -- Lists of a query's rules by symbol, which is a kind with a label: the position of a symbol's first rule, and for each rule that of the
 -- next one of its symbol. The accepting states stand with them, a bit each.
 -- First symbols and the positions of records, then where the lists keep their numbers, then what they say.
-use Rattle.std.specs.Prelude.{Bool, ◌||◌, cond, true, List, [], ◌∷◌, ◌++◌, ◌≡◌, ℕ, zero, suc, ◌+◌, ◌*◌, ◌-◌, ◌/◌, ◌%◌, ◌≤◌, ◌<◌, eqb, ltb, length, get_or, drop}
+use Rattle.std.specs.Prelude.{Bool, ◌||◌, cond, true, false, Option, Some, None, List, [], ◌∷◌, ◌++◌, ◌≡◌, ℕ, zero, suc, ◌+◌, ◌*◌, ◌-◌, ◌/◌, ◌%◌, ◌≤◌, ◌<◌, eqb, ltb, length, get_or, drop}
 use Rattle.paper.specs.Lists.{has}
 use Rattle.paper.specs.Query.{accepting_of}
 use Rattle.paper.specs.Questions.{has_place}
@@ -26,18 +26,19 @@ abbrev pub label_for : ℕ → ℕ
 label_for s = s % labels
 
 -- the number of the symbol of a kind and a label, or of no symbol: where the label is one that no node has, or the kind no rule's
-pub record SymbolOf (kind label x : ℕ) : Type 0 where
-  pub right : RuleKind kind → label ≤ 63 → x ≡ symbol kind label
-  pub high : 63 < label → x ≡ symbols
-  pub other : (RuleKind kind → ⊥) → x ≡ symbols
+pub record SymbolOf (kind label : ℕ) (x : Option ℕ) : Type 0 where
+  pub right : RuleKind kind → label ≤ 63 → x ≡ Some (symbol kind label)
+  pub high : 63 < label → x ≡ None
+  pub other : (RuleKind kind → ⊥) → x ≡ None
 
 -- a rule of the symbol
 abbrev pub is_for : ℕ → StreamRecord → Bool
 is_for s r = is_rule_for (kind_for s) (label_for s) r
 
 -- the record at a position is a rule of this symbol and of no other; of none, if this is no symbol
-abbrev pub SymbolAt : List ℕ → ℕ → ℕ → Type 0
-SymbolAt input at x = (s : ℕ) → s < symbols → is_for s (record_at input at) ≡ eqb x s
+abbrev pub SymbolAt : List ℕ → ℕ → Option ℕ → Type 0
+SymbolAt input at (Some x) = (x < symbols) × ((s : ℕ) → s < symbols → is_for s (record_at input at) ≡ eqb x s)
+SymbolAt input at None = (s : ℕ) → s < symbols → is_for s (record_at input at) ≡ false
 
 -- ---- the position of record i, from `from` on
 abbrev pub place : List ℕ → ℕ → ℕ → ℕ

@@ -2,72 +2,65 @@
 // accepting state and for each kind and left side of a rule. Then the table, a bit for each key.
 ghost use Rattle.std.specs.Prelude.{true, ◌≡◌, ◌*◌, ◌≤◌, ◌<◌, length, get_or};
 ghost use Rattle.paper.specs.Query.{is_rule_kind};
-ghost use Rattle.stream.specs.Keys.{word_bits, most_flags, most_ends, most_keys, flags_of, ends_of, keys_of, key_of, WholeAt, SaysKey};
-ghost use Rattle.stream.specs.OneRecord.{HeadInRange};
-ghost use Rattle.stream.specs.Positions.{record_at};
+ghost use Rattle.stream.specs.Keys.{word_bits, most_ends, most_keys, ends_of, keys_of, key_of, FittingAt, SaysKey};
+ghost use Rattle.stream.specs.Positions.{after, record_at};
 
-use crate::head::QueryFacts;
+use crate::head::QueryHead;
 use crate::lists::LABELS;
-use paper::kinds::LEAF_RULE;
+use paper::kinds::{ACCEPTING_STATE, LEAF_RULE};
 use paper::limits::MOST_STATES;
 
 // Bits of a word of the table.
 pub(crate) const WORD_BITS: usize = 64;
 
-// The flags of the query.
-fn flags(facts: QueryFacts) -> usize
-    requires { facts.arity ≤ 4 }
-    ensures { (result ≡ flags_of facts) × (result ≤ most_flags) }
-{
-    1usize << facts.arity
+impl QueryHead {
+    // What can stand behind a rule's label and flag: nothing in a leaf rule, two states in a branch rule.
+    fn ends(self) -> usize
+        ensures { (result ≡ ends_of self.facts) × (result ≤ most_ends) }
+    {
+        1 + self.facts.states * self.facts.states
+    }
+
+    // The keys of the query. Its own arity and states are the radices, so that a small query has few.
+    pub(crate) fn number_of_keys(self) -> usize
+        ensures { (result ≡ keys_of self.facts) × (result ≤ most_keys) }
+    {
+        MOST_STATES + LABELS * self.flags() * self.ends()
+    }
 }
 
-// What can stand behind a rule's label and flag: nothing in a leaf rule, two states in a branch rule.
-fn ends(facts: QueryFacts) -> usize
-    requires { facts.states ≤ 16 }
-    ensures { (result ≡ ends_of facts) × (result ≤ most_ends) }
-{
-    1 + facts.states * facts.states
-}
-
-// The keys of the query. Its own arity and states are the radices, so that a small query has few.
-pub(crate) fn number_of_keys(facts: QueryFacts) -> usize
-    requires { HeadInRange facts }
-    ensures { (result ≡ keys_of facts) × (result ≤ most_keys) }
-{
-    MOST_STATES + LABELS * flags(facts) * ends(facts)
-}
-
-// A byte as a number, in a function of its own so that the cast is proved once.
+// A byte as a number.
 fn number_at(input: &[u8], at: usize) -> usize
     requires { at < length input.now }
     ensures { (result ≡ get_or input.now at 0) × (result < 256) }
 {
-    input[at] as usize
-}
-
-// The key of an accepting state is the state.
-pub(crate) fn state_key(input: &[u8], facts: QueryFacts, at: usize) -> usize
-    requires whole_at { WholeAt input.now facts at }
-    requires at_value { get_or input.now at 0 ≡ 19 }
-    ensures { result ≡ key_of facts (record_at input.now at) }
-{
-    number_at(input, at + 1)
+    usize::from(input[at])
 }
 
 // The key of a rule: its label, its flag, and what stands behind them, as the digits of a
 // number above the states.
-pub(crate) fn rule_key(input: &[u8], facts: QueryFacts, at: usize) -> usize
-    requires whole_at { WholeAt input.now facts at }
-    requires at_value { is_rule_kind (get_or input.now at 0) ≡ true }
-    ensures { result ≡ key_of facts (record_at input.now at) }
+fn rule_key(input: &[u8], head: QueryHead, at: usize) -> usize
+    requires whole { after input.now at ≤ length input.now }
+    requires rule { is_rule_kind (get_or input.now at 0) ≡ true }
+    ensures { result ≡ key_of head.facts (record_at input.now at) }
 {
-    let label_and_flag = number_at(input, at + 1) * flags(facts) + number_at(input, at + 2);
-    let first = MOST_STATES + label_and_flag * ends(facts);
+    let label_and_flag = number_at(input, at + 1) * head.flags() + number_at(input, at + 2);
+    let first = MOST_STATES + label_and_flag * head.ends();
     if input[at] == LEAF_RULE {
         return first;
     }
-    first + 1 + number_at(input, at + 3) * facts.states + number_at(input, at + 4)
+    first + 1 + number_at(input, at + 3) * head.facts.states + number_at(input, at + 4)
+}
+
+// The key of a record that fits: that of an accepting state is the state, and what else fits is a rule.
+pub(crate) fn record_key(input: &[u8], head: QueryHead, at: usize) -> usize
+    requires { FittingAt input.now head.facts at }
+    ensures { result ≡ key_of head.facts (record_at input.now at) }
+{
+    if input[at] == ACCEPTING_STATE {
+        return number_at(input, at + 1);
+    }
+    rule_key(input, head, at)
 }
 
 // Whether the table has a key, which is then put in.

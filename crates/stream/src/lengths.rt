@@ -16,17 +16,14 @@ pub fn body_length(kind: u8) -> usize
     ensures { result ≡ body_length kind }
 {
     match kind {
-        BRANCH_RULE => LENGTHS[18] as usize,
-        LEAF_RULE => LENGTHS[17] as usize,
-        LEAF => LENGTHS[1] as usize,
-        BRANCH => LENGTHS[2] as usize,
-        _ => {
-            // Behind the table's end no kind is known.
-            if kind < 20 {
-                LENGTHS[kind as usize] as usize
-            } else {
-                0
-            }
-        }
+        BRANCH_RULE => usize::from(LENGTHS[18]),
+        LEAF_RULE => usize::from(LENGTHS[17]),
+        LEAF => usize::from(LENGTHS[1]),
+        BRANCH => usize::from(LENGTHS[2]),
+        // Behind the table's end no kind is known.
+        _ => LENGTHS
+            .get(usize::from(kind))
+            .copied()
+            .map_or(0, usize::from),
     }
 }

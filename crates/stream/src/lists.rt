@@ -5,9 +5,9 @@ ghost use Rattle.std.specs.Prelude.{false, ◌≡◌, ℕ, ◌+◌, ◌-◌, ◌
 ghost use Rattle.stream.specs.RuleLists.{Lists, SymbolOf, cell_behind, symbols, SymbolAt, Room, RuleLists, AddsState, TellsFirst, TellsNext, TellsAccepting};
 
 use crate::lengths::body_length;
-use crate::record::byte_at;
 use paper::kinds::{ACCEPTING_STATE, BRANCH_RULE, LEAF_RULE};
 use paper::limits::{HIGHEST_LABEL, MOST_RULES, MOST_STATES};
+use std::array;
 
 // The labels, from 0 on.
 pub(crate) const LABELS: usize = HIGHEST_LABEL as usize + 1;
@@ -37,20 +37,20 @@ const MOST_BYTES: usize = MOST_RULES * LONGEST_RULE + MOST_STATES * STATE_RECORD
 pub const LIST_NUMBERS: usize = FIRST_CELL + MOST_BYTES / SHORTEST_RULE;
 
 // The highest position that a number of the lists can tell: the end of an input is one.
-const HIGHEST_POSITION: usize = 65535;
+const HIGHEST_POSITION: usize = u16::MAX as usize;
 
-// The number of the symbol of a kind and a label; `SYMBOLS` where the kind is no rule's, or the label one
-// that no node has.
-fn symbol_of(kind: u8, label: u8) -> usize
+// The number of the symbol of a kind and a label; none where the kind is no rule's, or the label one that
+// no node has.
+fn symbol_of(kind: u8, label: u8) -> Option<usize>
     ensures { SymbolOf kind label result }
 {
     if HIGHEST_LABEL < label {
-        return SYMBOLS;
+        return None;
     }
     match kind {
-        LEAF_RULE => label as usize,
-        BRANCH_RULE => LABELS + label as usize,
-        _ => SYMBOLS,
+        LEAF_RULE => Some(usize::from(label)),
+        BRANCH_RULE => Some(LABELS + usize::from(label)),
+        _ => None,
     }
 }
 
@@ -62,27 +62,29 @@ fn cell_of(behind: usize) -> usize
     FIRST_CELL + behind / SHORTEST_RULE
 }
 
-// The symbol of the rule at a position; `SYMBOLS` where none stands, or one with a label that no node
-// has.
-fn symbol_at(input: &[u8], at: usize) -> usize
+// The byte at a position, and 0 where the input has ended: a number of a record that is cut. So records can
+// be listed before they are known to be whole: `list_rules` takes any bytes.
+fn byte_at(input: &[u8], at: usize) -> u8
+    ensures { result ≡ get_or input.now at 0 }
+{
+    input.get(at).copied().unwrap_or(0)
+}
+
+// The symbol of the rule at a position; none where none stands, or one with a label that no node has.
+fn symbol_at(input: &[u8], at: usize) -> Option<usize>
     requires { at < length input.now }
     ensures { SymbolAt input.now at result }
 {
     symbol_of(input[at], byte_at(input, at + 1))
 }
 
-// No rule yet: each list ends at once, and its last cell is its first.
-fn start_lists(lists: &mut [u16], last: &mut [u16], end: u16)
-    requires { (symbols ≤ length lists.old) × (length last.old ≡ symbols) }
-    ensures { (s : ℕ) → s < symbols → (get_or lists.new s 0 ≡ end) × (get_or last.new s 0 ≡ s) }
+// No rule yet: each list ends at once, and its last cell, which is answered, is its first.
+fn start_lists(lists: &mut [u16], end: u16) -> [u16; SYMBOLS]
+    requires { symbols ≤ length lists.old }
+    ensures { (s : ℕ) → s < symbols → (get_or lists.new s 0 ≡ end) × (get_or result s 0 ≡ s) }
 {
-    // Ends with the symbols.
-    let mut symbol = 0;
-    while symbol < SYMBOLS {
-        lists[symbol] = end;
-        last[symbol] = symbol as u16;
-        symbol += 1;
-    }
+    lists[..SYMBOLS].fill(end);
+    array::from_fn(|symbol| symbol as u16)
 }
 
 // One more rule of a symbol: what told the end tells this rule, and the rule's cell tells the end.
@@ -93,7 +95,7 @@ fn add_rule(lists: &mut [u16], last: &mut [u16], symbol: usize, cell: usize, at:
         (get_or lists.old (get_or last.old symbol 0) 0) }
     ensures last_after { last.new ≡ set last.old symbol cell }
 {
-    let old = last[symbol] as usize;
+    let old = usize::from(last[symbol]);
     let end = lists[old];
     lists[old] = at;
     lists[cell] = end;
@@ -106,14 +108,12 @@ fn with_state(input: &[u8], at: usize, accepting: u16) -> u16
     requires { at < length input.now }
     ensures { AddsState input.now at accepting result }
 {
-    if input[at] != ACCEPTING_STATE {
-        return accepting;
+    let state = usize::from(byte_at(input, at + 1));
+    if input[at] == ACCEPTING_STATE && state < MOST_STATES {
+        accepting | 1u16 << state
+    } else {
+        accepting
     }
-    let state = byte_at(input, at + 1) as usize;
-    if MOST_STATES <= state {
-        return accepting;
-    }
-    accepting | 1u16 << state
 }
 
 // The lists of the rules that stand from a position on, in file order: a rule is put behind the last
@@ -123,33 +123,18 @@ fn link_rules(input: &[u8], from: usize, lists: &mut [u16])
     requires room { Room input.now from (length lists.old) }
     ensures { RuleLists input.now from lists.new }
 {
-    let mut last: [u16; SYMBOLS] = [0; SYMBOLS];
-    let end = input.len() as u16;
-    start_lists(&mut *lists, &mut last, end);
+    let mut last = start_lists(lists, input.len() as u16);
     let mut accepting: u16 = 0;
-    // Ends with the input: a turn steps over a kind at least.
+    // A `while`, as records differ in length. It ends with the input: a turn steps over a kind at least.
     let mut at = from;
     while at < input.len() {
-        let symbol = symbol_at(input, at);
-        if symbol < SYMBOLS {
-            let cell = cell_of(at - from);
-            add_rule(&mut *lists, &mut last, symbol, cell, at as u16);
+        if let Some(symbol) = symbol_at(input, at) {
+            add_rule(lists, &mut last, symbol, cell_of(at - from), at as u16);
         }
         accepting = with_state(input, at, accepting);
-        at = at + 1 + body_length(input[at]);
+        at += 1 + body_length(input[at]);
     }
     lists[ACCEPTING_CELL] = accepting;
-}
-
-// How many bytes stand from a position on.
-fn bytes_behind(input: &[u8], from: usize) -> usize
-    ensures { result ≡ length input.now - from }
-{
-    if from < input.len() {
-        input.len() - from
-    } else {
-        0
-    }
 }
 
 // The lists of a query, whose records stand from a position on. Any bytes are taken: where they are more
@@ -158,35 +143,28 @@ fn bytes_behind(input: &[u8], from: usize) -> usize
 pub fn list_rules(input: &[u8], from: usize, lists: &mut [u16])
     ensures { Lists input.now from lists.old lists.new }
 {
-    if lists.len() < LIST_NUMBERS {
+    if lists.len() < LIST_NUMBERS || HIGHEST_POSITION < input.len() {
         return;
     }
-    if HIGHEST_POSITION < input.len() {
+    if MOST_BYTES < input.len().saturating_sub(from) {
         return;
     }
-    if MOST_BYTES < bytes_behind(input, from) {
-        return;
-    }
-    link_rules(input, from, &mut *lists);
+    link_rules(input, from, lists);
 }
 
 // The number in a cell, and 0 behind the last one, so that nothing is asked of the lists.
 fn number_in(lists: &[u16], cell: usize) -> usize
     ensures { result ≡ get_or lists.now cell 0 }
 {
-    if cell < lists.len() {
-        lists[cell] as usize
-    } else {
-        0
-    }
+    lists.get(cell).copied().map_or(0, usize::from)
 }
 
 // The first rule of a kind and a label that rules and nodes have, and the end of the input where there is
-// none.
+// none: that is what the lists keep, in numbers of 16 bits, and a walk over rules ends where the input does.
 pub fn first_rule(lists: &[u16], kind: u8, label: u8) -> usize
     ensures { TellsFirst lists.now kind label result }
 {
-    number_in(lists, symbol_of(kind, label))
+    symbol_of(kind, label).map_or(0, |symbol| number_in(lists, symbol))
 }
 
 // The rule behind one, of its kind and label; that one stands so many bytes behind the head.
@@ -200,8 +178,5 @@ pub fn rule_after(lists: &[u16], behind: usize) -> usize
 pub fn accepts(lists: &[u16], state: usize) -> bool
     ensures { TellsAccepting lists.now state result × (16 ≤ state → result ≡ false) }
 {
-    if MOST_STATES <= state {
-        return false;
-    }
-    (number_in(lists, ACCEPTING_CELL) >> state) % 2 == 1
+    state < MOST_STATES && (number_in(lists, ACCEPTING_CELL) >> state) % 2 == 1
 }

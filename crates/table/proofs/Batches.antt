@@ -1,21 +1,20 @@
--- What a batch says, and what `store` leaves of a table: how many records are stored, the records of a batch one by one, and the table;
+-- What a batch says, and what `store` leaves of a table: whether its records fit, the records one by one, and the table;
 -- last, `store` as the laws of loops that store take it (`storer`).
-use mathlib.Core.Path.{◌≡◌, refl, sym, ap, ◌∙◌, subst}
+use mathlib.Core.Path.{◌≡◌, refl, ap, ◌∙◌}
 use Prim.Native.Nat.{ℕ, zero, suc, ◌+◌, ◌*◌, ◌<◌, ◌≤◌}
 use native.Mathlib.Omega.{arith}
 use mathlib.Core.Bool.{Bool, true, false, cond, false≢true}
 use mathlib.Core.List.{List, ◌++◌}
 use lib.Dec.{leb}
 use lib.ListN.{length, get_or, take, drop, length-append, length-drop}
-use lib.Seq.{get_or-drop, length-take-le, paste, paste-zero}
-use borrow.Author.Tests.{leb-true, le-leb, lt-leb}
+use lib.Seq.{get_or-drop, length-take-le}
+use borrow.Author.Tests.{leb-true, le-leb}
 use Rattle.paper.specs.declared.Record.{Record}
 use Rattle.paper.specs.Records.{blank_entry}
 use Rattle.walks.proofs.Storing.{Storer}
-use Rattle.table.proofs.Copies.{pasted}
-use Rattle.table.specs.Batch.{record_numbers, record_at, records_in, fits, fitted, stored}
+use Rattle.table.specs.Batch.{record_numbers, record_at, records_in, fits, stored}
 
--- ---- how many records are stored
+-- ---- whether the records fit
 module _ (entries from numbers count : ℕ) where
   -- the test `fits`, and the two facts that it is of
   pub fits_there : from + count ≤ entries → record_numbers * count ≤ numbers → fits entries from numbers count ≡ true
@@ -28,32 +27,6 @@ module _ (entries from numbers count : ℕ) where
           → (from + count ≤ entries) × (record_numbers * count ≤ numbers)
       go true e f = (leb-true (from + count) entries e, leb-true (record_numbers * count) numbers f)
       go false e f = absurd (false≢true f)
-
-  pub all_fit : from + count ≤ entries → record_numbers * count ≤ numbers → count ≡ fitted entries from numbers count
-  unfolding fitted
-  all_fit l m = rw (fits_there l m)
-
-  pub no_entries : entries < from + count → 0 ≡ fitted entries from numbers count
-  unfolding fitted
-  no_entries l = rw (lt-leb (from + count) entries l)
-
-  pub no_numbers : numbers < record_numbers * count → 0 ≡ fitted entries from numbers count
-  unfolding fitted
-  no_numbers l = go (leb (from + count) entries)
-    where
-      go : (c : Bool) → 0 ≡ cond (cond c (leb (record_numbers * count) numbers) false) count 0
-      go true = rw (lt-leb (record_numbers * count) numbers l)
-      go false = refl
-
-  -- where any is stored, there is room for all that are
-  pub within : (n i : ℕ) → n ≡ fitted entries from numbers count → i < n → (from + n ≤ entries) × (record_numbers * n ≤ numbers)
-  unfolding fitted
-  within n i e l =
-      subst (λ (m : ℕ). (from + m ≤ entries) × (record_numbers * m ≤ numbers)) (sym e) (go (fits entries from numbers count) refl (subst (λ (m : ℕ). i < m) e l))
-    where
-      go : (c : Bool) → fits entries from numbers count ≡ c → i < cond c count 0 → (from + cond c count 0 ≤ entries) × (record_numbers * cond c count 0 ≤ numbers)
-      go true f k = fits_says f
-      go false f k = absurd (omega (arith, k))
 
 -- ---- the records of a batch
 pub length_records : (n : ℕ) (batch : List ℕ) → length (records_in n batch) ≡ n
@@ -105,17 +78,6 @@ module _ (table : List Record) (from : ℕ) (batch : List ℕ) (count : ℕ) whe
             (fits_says (length table) from (length batch) count e).0,
           )
       go false e = refl
-
-  -- what a loop has written that stores as many as fit
-  pub pasted_stored : (n : ℕ) → n ≡ fitted (length table) from (length batch) count
-      → paste table from (records_in n batch) n ≡ stored table from batch count
-  unfolding fitted
-  pasted_stored n e = ap (λ (m : ℕ). paste table from (records_in m batch) m) e ∙ go (fits (length table) from (length batch) count)
-    where
-      go : (c : Bool) → paste table from (records_in (cond c count 0) batch) (cond c count 0)
-          ≡ cond c (take from table ++ (records_in count batch ++ drop (from + count) table)) table
-      go true = pasted table (records_in count batch) from count (length_records count batch)
-      go false = sym (paste-zero table from (records_in 0 batch))
 
 abbrev pub storer : Storer
 storer = record { put = stored; keeps_length = length_stored }

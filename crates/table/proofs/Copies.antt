@@ -4,8 +4,8 @@ use mathlib.Core.Path.{◌≡◌, sym, ap, ◌∙◌}
 use Prim.Native.Nat.{ℕ, ◌+◌, ◌<◌}
 use native.Mathlib.Omega.{arith}
 use native.Mathlib.Numerals.{add-one}
-use mathlib.Core.List.{List, ◌++◌, append_assoc, append-nil}
-use lib.ListN.{length, get_or, set, take, drop, drop_of_length-le}
+use mathlib.Core.List.{List, ◌++◌, append_assoc}
+use lib.ListN.{length, get_or, set, take, drop}
 use lib.Seq.{paste, paste-suc, take_all}
 
 module _ {A : Type 0} (table records : List A) (from : ℕ) where
@@ -22,9 +22,3 @@ module _ {A : Type 0} (table records : List A) (from : ℕ) where
   pasted n long =
       append_assoc (take from table) (take n records) (drop (from + n) table) ∙ ap (λ (l : List A). take from table ++ (l ++ drop (from + n) table))
       (take_all n records (omega (arith, long)))
-
--- all of them, over the whole table
-pub pasted_all : {A : Type 0} (table records : List A) (n : ℕ) → length records ≡ n → length table ≡ n → paste table 0 records n ≡ records
-pasted_all {A = A} table records n long short =
-    ap (λ (l : List A). l ++ drop (0 + n) table) (take_all n records (omega (arith, long))) ∙ ap (λ (l : List A). records ++ l)
-    (drop_of_length-le table {i = 0 + n} (omega (arith, short))) ∙ append-nil records

@@ -25,10 +25,6 @@ records_in (suc n) batch = record_at batch 0 ∷ records_in n (drop record_numbe
 abbrev pub fits : ℕ → ℕ → ℕ → ℕ → Bool
 fits entries from numbers count = cond (leb (from + count) entries) (leb (record_numbers * count) numbers) false
 
--- so many are stored: all of them, or none
-unfoldable pub fitted : ℕ → ℕ → ℕ → ℕ → ℕ
-fitted entries from numbers count = cond (fits entries from numbers count) count 0
-
 -- they stand in the table from that entry on, the others stay; where they do not fit, all stay
 abbrev pub stored : List Record → ℕ → List ℕ → ℕ → List Record
 stored table from batch count =

@@ -1,2 +1,3 @@
 pub mod Batch
 pub mod Sets
+pub mod Made

@@ -1,13 +1,18 @@
 // The lent table of records: the two functions that write it, what the second calls, and the set that a number is.
 // Those two hold a slice of structs; whatever can be done on plain numbers is done by the others.
+// What becomes of sets where they are put together has a file of its own.
 #![tactic(auto)]
 
 ghost use Rattle.std.specs.Prelude.{◌≡◌, ◌+◌, ◌*◌, ◌<◌, length, replicate};
 ghost use Rattle.paper.specs.Records.{blank_entry};
-ghost use Rattle.table.specs.Batch.{record_numbers, record_at, fitted, stored};
-ghost use Rattle.table.specs.Sets.{set_in};
+ghost use Rattle.table.specs.Batch.{record_numbers, record_at, fits, stored};
+ghost use Rattle.table.specs.Sets.{set_in, set_number};
 
 use paper::{Record, Set};
+
+mod made;
+
+pub use made::{Made, product, single, union};
 
 // A record in a batch is so many numbers, in the order of its fields: kind, node, left, right, flag.
 pub const RECORD_NUMBERS: usize = 5;
@@ -24,20 +29,7 @@ pub const FIRST_RECORD: u64 = 2;
 pub fn blank(table: &mut [Record])
     ensures { table.new ≡ replicate (length table.old) blank_entry }
 {
-    let n = table.len();
-    let r = Record {
-        kind: 0,
-        node: 0,
-        left: 0,
-        right: 0,
-        flag: 0,
-    };
-    let mut i: usize = 0;
-    // Ends at n: i grows by one a turn.
-    while i < n {
-        table[i] = r;
-        i += 1;
-    }
+    table.fill(Record::BLANK);
 }
 
 // The first `count` records of a batch, five numbers each, to the entries from `from` on; nothing where they do not fit.
@@ -46,35 +38,23 @@ pub fn blank(table: &mut [Record])
 pub fn store(table: &mut [Record], from: usize, batch: &[u16], count: usize)
     ensures { table.new ≡ stored table.old from batch.now count }
 {
-    let entries = table.len();
-    let numbers = batch.len();
-    let n = fitting(entries, from, numbers, count);
-    let mut i: usize = 0;
-    // Ends at n. All n fit or n is 0, so a turn tests nothing, and j cannot pass the largest usize.
-    while i < n {
-        let r = record_at(batch, i);
-        let j = from + i;
-        table[j] = r;
-        i += 1;
+    if !fits(table.len(), from, batch.len(), count) {
+        return;
+    }
+    for i in 0..count {
+        table[from + i] = record_at(batch, i);
     }
 }
 
-// How many records of a batch are stored: all of them, or none. It subtracts and divides where adding and
-// multiplying would say the same, since from + count and the numbers of so many records may pass the largest usize.
-fn fitting(entries: usize, from: usize, numbers: usize, count: usize) -> usize
-    ensures { result ≡ fitted entries from numbers count }
+// Whether the batch has so many records, and the table so many entries from `from` on. It subtracts and divides where
+// adding and multiplying would say the same, since from + count and the numbers of so many records may pass the largest usize.
+fn fits(entries: usize, from: usize, numbers: usize, count: usize) -> bool
+    ensures { result ≡ fits entries from numbers count }
 {
-    if count <= entries {
-        if from <= entries - count {
-            if count <= numbers / RECORD_NUMBERS {
-                return count;
-            }
-        }
-    }
-    0
+    count <= entries && from <= entries - count && count <= numbers / RECORD_NUMBERS
 }
 
-// Record i of a batch, which has to be there: `store` reads no more of them than `fitting` has found.
+// Record i of a batch, which has to be there: `store` has found that all of them are.
 fn record_at(batch: &[u16], i: usize) -> Record
     requires { record_numbers * i + 4 < length batch.now }
     ensures { result ≡ record_at batch.now i }
@@ -94,11 +74,20 @@ fn record_at(batch: &[u16], i: usize) -> Record
 pub fn set_of(number: u16) -> Set
     ensures { result ≡ set_in number }
 {
-    if number == 0 {
-        return Set::Empty;
+    match u64::from(number) {
+        EMPTY => Set::Empty,
+        UNIT => Set::Unit,
+        _ => Set::Record(number - FIRST_RECORD as u16),
     }
-    if number == 1 {
-        return Set::Unit;
+}
+
+// And back: the number that a set is.
+pub fn number_of(set: Set) -> u64
+    ensures { result ≡ set_number set }
+{
+    match set {
+        Set::Empty => EMPTY,
+        Set::Unit => UNIT,
+        Set::Record(i) => FIRST_RECORD + u64::from(i),
     }
-    Set::Record(number - 2)
 }

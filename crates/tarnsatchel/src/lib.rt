@@ -1,17 +1,14 @@
 // The library for C: include/tarnsatchel.h says it in C. First the exported functions, each a straight line over the function of its
-// name; then the head's six numbers read and written; then each answer as a number. Nothing is decided here but how an answer looks
+// name; then the head's six numbers read and written; then an answer as a number. Nothing is decided here but how an answer looks
 // from C, so each contract is that of the function below it, told in numbers (specs/Told.antt).
 #![tactic(auto)]
 
 ghost use Rattle.std.specs.Prelude.{◌≡◌};
-ghost use Rattle.paper.specs.Answers.{no_of_stream, told, says_built, says_converted, says_counted, says_fixed, says_member, says_projected, says_written};
-ghost use Rattle.tarnsatchel.specs.Told.{set_kind, set_record, head_numbers, set_of, head_of, code, listed_number, position_or, Tells, TellsWhere};
+ghost use Rattle.paper.specs.Answers.{no_of, says, says_built, told};
+ghost use Rattle.tarnsatchel.specs.Told.{set_kind, set_record, head_numbers, set_of, head_of, Tells, TellsWhere};
 ghost use Rattle.tarnsatchel.specs.Told.{TellsBuild, TellsCount, TellsRow, TellsMember, TellsProject, TellsFix, TellsText, TellsTree};
 
-use paper::{
-    Built, Converted, Counted, Fixed, Head, Member, Position, Projected, Record, Set,
-    StreamRefusal, Written,
-};
+use paper::{Head, Record, Refusal, Set, StreamRefusal};
 
 // A head goes to C as so many numbers: nodes, arity, open places, records used, the kind of the set, its record.
 const HEAD_NUMBERS: usize = 6;
@@ -48,9 +45,8 @@ pub extern "C" fn tarn_count(
     ensures { TellsCount head.now table.now work.old rows.old result
         work.new rows.new }
 {
-    let h = head_of(head);
-    let counted = sound::count(h, table, work);
-    tell_count(counted, rows)
+    let counted = sound::count(head_of(head), table, work);
+    tell(counted, rows)
 }
 
 // `row` is the row of this number, in its first entries, one a place; what is behind them stays.
@@ -65,9 +61,8 @@ pub extern "C" fn tarn_row(
     ensures { TellsRow head.now table.now work.old number row.old result
         work.new row.new }
 {
-    let h = head_of(head);
-    let written = row::row(h, table, work, number, row);
-    tell_row(written)
+    let written = row::row(head_of(head), table, work, number, row);
+    tell(written, &mut ())
 }
 
 // `listed` is 1 if the row is listed, else 0: a byte, which every language that calls C has.
@@ -82,9 +77,8 @@ pub extern "C" fn tarn_member(
     ensures { TellsMember head.now table.now work.old row.now listed.old result
         work.new listed.new }
 {
-    let h = head_of(head);
-    let member = member::member(h, table, work, row);
-    tell_member(member, listed)
+    let member = member::member(head_of(head), table, work, row);
+    tell(member.map(u8::from), listed)
 }
 
 // `marks` has 1 for each node that stands at the place in some row, else 0. Bytes behind the tree's nodes stay.
@@ -99,9 +93,8 @@ pub extern "C" fn tarn_project(
     ensures { TellsProject head.now table.now work.old place marks.old result
         work.new marks.new }
 {
-    let h = head_of(head);
-    let projected = project::project(h, table, work, place, marks);
-    tell_project(projected)
+    let projected = project::project(head_of(head), table, work, place, marks);
+    tell(projected, &mut ())
 }
 
 // Fixes the place at the node, into `target`; `fixed` is the new head's numbers. The source and its head stay as they are, so that one
@@ -119,9 +112,8 @@ pub extern "C" fn tarn_fix(
     ensures { TellsFix head.now source.now work.old place node target.old fixed.old result
         work.new target.new fixed.new }
 {
-    let h = head_of(head);
-    let answer = fix::fix(h, source, work, place, node, target);
-    tell_fix(answer, fixed)
+    let answer = fix::fix(head_of(head), source, work, place, node, target);
+    tell(answer.map(numbers_of), fixed)
 }
 
 // Bracketed text to tree records, into `tree`; `bytes` is how many bytes they have. What is behind them stays.
@@ -129,8 +121,8 @@ pub extern "C" fn tarn_fix(
 pub extern "C" fn tarn_text_to_tree(text: &[u8], tree: &mut [u8], bytes: &mut usize) -> u8
     ensures { TellsTree text.now tree.old bytes.old result tree.new bytes.new }
 {
-    let converted = text::text_to_tree(text, &mut *tree);
-    tell_conversion(converted, &mut *bytes)
+    let made = text::text_to_tree(text, tree);
+    tell(made, bytes)
 }
 
 // Tree records to the canonical text, into `text`; as above.
@@ -138,8 +130,8 @@ pub extern "C" fn tarn_text_to_tree(text: &[u8], tree: &mut [u8], bytes: &mut us
 pub extern "C" fn tarn_tree_to_text(tree: &[u8], text: &mut [u8], bytes: &mut usize) -> u8
     ensures { TellsText tree.now text.old bytes.old result text.new bytes.new }
 {
-    let converted = text::tree_to_text(tree, &mut *text);
-    tell_conversion(converted, &mut *bytes)
+    let written = text::tree_to_text(tree, text);
+    tell(written, bytes)
 }
 
 // The head of six numbers, whatever they are: nodes, arity, open places, records used, the kind of the set, its record.
@@ -204,109 +196,37 @@ fn set_record(set: Set) -> u16
     }
 }
 
-// ---- each answer as a number, with what is written in its out parameter
+// ---- an answer as a number, with what is written in its out parameter
 
-// The refusal's number is above 0 for every refusal, so 0 is free to say that there is an answer.
-fn tell_build(built: Built, head: &mut [u16; HEAD_NUMBERS], position: &mut usize) -> u8
+// 0 with an answer, which may be 0 rows or a row that is not listed; what stands in a lent output is written already, and its answer
+// is (). The refusal's number is above 0 for every refusal.
+fn tell<A: Copy>(answered: Result<A, Refusal>, out: &mut A) -> u8
+    ensures { Tells (says no_of answered) out.old result out.new }
+{
+    match answered {
+        Ok(answer) => {
+            *out = answer;
+            0
+        }
+        Err(why) => why.number(),
+    }
+}
+
+// The same of a build, whose refusal may have a position. Nothing is read and nothing is written for the others.
+fn tell_build(built: Result<Head, StreamRefusal>, head: &mut [u16; HEAD_NUMBERS], position: &mut usize) -> u8
     ensures { TellsWhere (told head_numbers (says_built built)) head.old position.old result
         head.new position.new }
 {
     match built {
-        Built::Refused(r) => {
-            tell_position(r, &mut *position);
-            r.number()
-        }
-        Built::Set(h) => {
+        Ok(h) => {
             *head = numbers_of(h);
             0
         }
-    }
-}
-
-// The position of a refusal that has one. Nothing is read and nothing is written for the others.
-fn tell_position(why: StreamRefusal, position: &mut usize)
-    ensures { position.new ≡ position_or (no_of_stream why) position.old }
-{
-    match why.position() {
-        Position::At(at) => {
-            *position = at;
-        }
-        Position::None => {}
-    }
-}
-
-// The number of rows may be 0, which is an answer.
-fn tell_count(counted: Counted, rows: &mut u64) -> u8
-    ensures { Tells (says_counted counted) rows.old result rows.new }
-{
-    match counted {
-        Counted::Refused(r) => r.number(),
-        Counted::Rows(n) => {
-            *rows = n;
-            0
-        }
-    }
-}
-
-// What is written is in the output already.
-fn tell_row(written: Written) -> u8
-    ensures { result ≡ code (says_written written) }
-{
-    match written {
-        Written::Refused(r) => r.number(),
-        Written::Row => 0,
-    }
-}
-
-// Both answers are 0: a row that is not listed is no refusal.
-fn tell_member(member: Member, listed: &mut u8) -> u8
-    ensures { Tells (told listed_number (says_member member)) listed.old result listed.new }
-{
-    match member {
-        Member::Refused(r) => r.number(),
-        Member::Listed => {
-            *listed = 1;
-            0
-        }
-        Member::NotListed => {
-            *listed = 0;
-            0
-        }
-    }
-}
-
-// As with a row.
-fn tell_project(projected: Projected) -> u8
-    ensures { result ≡ code (says_projected projected) }
-{
-    match projected {
-        Projected::Refused(r) => r.number(),
-        Projected::Marks => 0,
-    }
-}
-
-// As with a build.
-fn tell_fix(answer: Fixed, fixed: &mut [u16; HEAD_NUMBERS]) -> u8
-    ensures { Tells (told head_numbers (says_fixed answer)) fixed.old result fixed.new }
-{
-    match answer {
-        Fixed::Refused(r) => r.number(),
-        Fixed::Set(h) => {
-            *fixed = numbers_of(h);
-            0
-        }
-    }
-}
-
-// No result is empty, but the number of its bytes is told all the same in a parameter of its own.
-fn tell_conversion(converted: Converted, bytes: &mut usize) -> u8
-    ensures { Tells (says_converted converted) bytes.old result bytes.new }
-{
-    match converted {
-        Converted::Refused(r) => r.number(),
-        Converted::Bytes(n) => {
-            *bytes = n;
-            0
+        Err(why) => {
+            if let Some(at) = why.position() {
+                *position = at;
+            }
+            why.number()
         }
     }
 }

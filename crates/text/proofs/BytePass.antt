@@ -10,8 +10,6 @@ use Rattle.paper.specs.BracketedText.{Token, number, opening, closing}
 use Rattle.paper.specs.Image.{image_bytes}
 use Rattle.writings.specs.ReadText.{Symbol, is_blank, is_line_end, is_mark, is_opening, is_closing, is_wrong, Sign, digit, symbol, sign_of}
 use Rattle.writings.specs.ReadText.{Mode, outside, in_number, in_comment, put, fresh, numbered, byte, cut_from, root_of, read_text}
-use Rattle.writings.proofs.Cutting.{found_cut}
-use Rattle.writings.proofs.Texts.{cut_fit}
 use Rattle.text.specs.Pass.{Kept, nothing_kept, Step, faulty, going, step, refused, reading, within, after_symbol, after_fresh, behind, one_more, after_number, after_byte, image_behind, image_of_text}
 use Rattle.text.proofs.TokenPass.{step_on, run, run_faulty, tokens_image}
 
@@ -85,4 +83,4 @@ text_image t = bytes_same t outside (going nothing_kept) ∙ go (cut_from outsid
   where
     go : (o : Option (List Token)) → cut_from outside t ≡ o → comes_to (going nothing_kept) o ≡ map image_bytes (root_of o)
     go none e = refl
-    go (some ts) e = tokens_image ts (cut_fit (found_cut t ts e))
+    go (some ts) e = tokens_image ts

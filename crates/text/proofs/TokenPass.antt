@@ -2,11 +2,12 @@
 -- First what is still to be written, level by level, and that it is the image; then the labels that wait in one list; then the pass.
 use mathlib.Core.Path.{◌≡◌, refl, sym, ◌∙◌, ap}
 use mathlib.Core.Bool.{Bool, true, false, cond, ◌&&◌, ◌||◌, false≢true}
-use mathlib.Core.List.{List, [], ◌∷◌, ◌++◌, append-nil, append_assoc}
-use mathlib.Core.Option.{Option, none, some, map}
+use mathlib.Core.List.{List, [], ◌∷◌, ◌++◌, append-nil, append_assoc, map}
+use mathlib.Core.Option.{Option, none, some}
+use mathlib.Core.Option as O
 use Prim.Native.Nat.{ℕ, zero, suc, ◌+◌, ◌-◌, ◌≤◌, ◌<◌}
 use native.Mathlib.Omega.{arith}
-use borrow.Author.Tests.{lt-ltb, le-ltb, le-leb, lt-leb, eq-eqb, ne_eqb, eqb-true, leb-true, leb-false}
+use borrow.Author.Tests.{lt-ltb, le-leb, lt-leb, eq-eqb, ne_eqb, eqb-true, leb-true, leb-false}
 use lib.Dec.{eqb, leb, ltb}
 use lib.ListN.{length}
 use Rattle.paper.specs.WrittenTree.{Forest, nil, tree, WrittenTree, forest_of}
@@ -15,8 +16,8 @@ use Rattle.paper.specs.Image.{forest_bytes, image_bytes}
 use Rattle.writings.specs.ReadText.{Ending, forests, bracket, refused, number_before, opening_before, closing_before, ending_of, closed_root}
 use Rattle.laws.proofs.Lists.{both_true}
 use Rattle.writings.proofs.Images.{regrouped}
-use Rattle.writings.proofs.Texts.{Fit, closed_root_read}
-use Rattle.text.specs.Pass.{branches, opened, inner, outer, closed, Kept, nothing_kept, Step, faulty, going, pad_if, is_full, with_number, with_closing, step, image_at}
+use Rattle.writings.proofs.Texts.{closed_root_read}
+use Rattle.text.specs.Pass.{Label, with_brackets, branches, opened, inner, outer, closed, Kept, nothing_kept, Step, faulty, going, pad_if, is_full, with_number, with_closing, step, image_at}
 use Rattle.text.proofs.Endings.{balanced, roots, numbers, and_false, judged_accepts, accepted_judged}
 
 -- ---- what is still to be written
@@ -85,13 +86,9 @@ pub image_written : (ts : List Token) (w : WrittenTree) → ending_of ts ≡ for
 image_written ts w e = (rw e at (emitted ts false [] [])) refl ∙ append-nil (image_bytes w)
 
 -- ---- the labels that wait, in one list
-abbrev flat : List ℕ → List (List ℕ) → List ℕ
-flat ls [] = ls
-flat ls (ms ∷ levels) = ls ++ opened (flat ms levels)
-
-abbrev Low : List ℕ → Type 0
-Low [] = Unit {0}
-Low (l ∷ ls) = (l < 64) × Low ls
+abbrev flat : List ℕ → List (List ℕ) → List Label
+flat ls [] = map (with_brackets false) ls
+flat ls (ms ∷ levels) = map (with_brackets false) ls ++ opened (flat ms levels)
 
 abbrev Some : List ℕ → Type 0
 Some [] = ⊥
@@ -100,37 +97,36 @@ Some (l ∷ ls) = Unit {0}
 -- at each outer level a label waits whose brackets are open
 abbrev Levels : List (List ℕ) → Type 0
 Levels [] = Unit {0}
-Levels (ms ∷ levels) = Some ms × Low ms × Levels levels
+Levels (ms ∷ levels) = Some ms × Levels levels
 
-flat_number : (l : ℕ) (ls : List ℕ) (levels : List (List ℕ)) → flat (l ∷ ls) levels ≡ l ∷ flat ls levels
+flat_number : (l : ℕ) (ls : List ℕ) (levels : List (List ℕ)) → flat (l ∷ ls) levels ≡ with_brackets false l ∷ flat ls levels
 flat_number l ls [] = refl
 flat_number l ls (ms ∷ levels) = refl
 
 -- up to the label of the innermost open brackets, and from there on
-inner_low : (ls : List ℕ) → Low ls → inner ls ≡ ls
-inner_low [] h = refl
-inner_low (l ∷ ls) h = rw (lt-ltb l 64 h.0, inner_low ls h.1)
+inner_all : (ls : List ℕ) → inner (map (with_brackets false) ls) ≡ ls
+inner_all [] = refl
+inner_all (l ∷ ls) = ap (λ x. l ∷ x) (inner_all ls)
 
-inner_open : (ls : List ℕ) → Low ls → (m : ℕ) (es : List ℕ) → inner (ls ++ ((m + 64) ∷ es)) ≡ ls
-inner_open [] h m es = rw (le-ltb (m + 64) 64 (omega arith))
-inner_open (l ∷ ls) h m es = rw (lt-ltb l 64 h.0, inner_open ls h.1 m es)
+inner_open : (ls : List ℕ) (m : ℕ) (es : List Label) → inner (map (with_brackets false) ls ++ (with_brackets true m ∷ es)) ≡ ls
+inner_open [] m es = refl
+inner_open (l ∷ ls) m es = ap (λ x. l ∷ x) (inner_open ls m es)
 
-outer_open : (ls : List ℕ) → Low ls → (m : ℕ) (es : List ℕ) → outer (ls ++ ((m + 64) ∷ es)) ≡ (m + 64) ∷ es
-outer_open [] h m es = rw (le-ltb (m + 64) 64 (omega arith))
-outer_open (l ∷ ls) h m es = rw (lt-ltb l 64 h.0, outer_open ls h.1 m es)
+outer_open : (ls : List ℕ) (m : ℕ) (es : List Label)
+    → outer (map (with_brackets false) ls ++ (with_brackets true m ∷ es)) ≡ with_brackets true m ∷ es
+outer_open [] m es = refl
+outer_open (l ∷ ls) m es = outer_open ls m es
 
-inner_flat : (ls ms : List ℕ) (levels : List (List ℕ)) → Low ls → Some ms → inner (flat ls (ms ∷ levels)) ≡ ls
-inner_flat ls [] levels h s = absurd s
-inner_flat ls (m ∷ ms) levels h s =
-    ap (λ x. inner (ls ++ opened x)) (flat_number m ms levels) ∙ inner_open ls h m (flat ms levels)
+inner_flat : (ls ms : List ℕ) (levels : List (List ℕ)) → Some ms → inner (flat ls (ms ∷ levels)) ≡ ls
+inner_flat ls [] levels s = absurd s
+inner_flat ls (m ∷ ms) levels s =
+    ap (λ x. inner (map (with_brackets false) ls ++ opened x)) (flat_number m ms levels) ∙ inner_open ls m (flat ms levels)
 
-outer_flat : (ls ms : List ℕ) (levels : List (List ℕ)) → Low ls → Some ms → closed (outer (flat ls (ms ∷ levels))) ≡ flat ms levels
-outer_flat ls [] levels h s = absurd s
-outer_flat ls (m ∷ ms) levels h s =
-    let z : m + 64 - 64 ≡ m = omega arith in
-    ap (λ x. closed (outer (ls ++ opened x))) (flat_number m ms levels)
-    ∙ ap closed (outer_open ls h m (flat ms levels))
-    ∙ ap (λ x. x ∷ flat ms levels) z
+outer_flat : (ls ms : List ℕ) (levels : List (List ℕ)) → Some ms → closed (outer (flat ls (ms ∷ levels))) ≡ flat ms levels
+outer_flat ls [] levels s = absurd s
+outer_flat ls (m ∷ ms) levels s =
+    ap (λ x. closed (outer (map (with_brackets false) ls ++ opened x))) (flat_number m ms levels)
+    ∙ ap closed (outer_open ls m (flat ms levels))
     ∙ sym (flat_number m ms levels)
 
 -- ---- the pass
@@ -150,9 +146,8 @@ run_faulty (x ∷ ts) = run_faulty ts
 abbrev kept : Bool → List ℕ → List (List ℕ) → ℕ → List ℕ → Kept
 kept may ls levels n image = record { may = may; depth = length levels; nodes = n; waiting = flat ls levels; image = image }
 
--- the labels are low, a number stands just before only if its label waits, and brackets are open only behind a number
+-- a number stands just before only if its label waits, and brackets are open only behind a number
 record Waits (may : Bool) (ls : List ℕ) (levels : List (List ℕ)) (n : ℕ) : Type 0 where
-  low : Low ls
   deep : Levels levels
   before : may ≡ true → Some ls × (1 ≤ n)
   begun : (1 ≤ length levels) → 1 ≤ n
@@ -180,19 +175,19 @@ number_refused may ls levels n l ts image full never =
     ∙ sym (ap (λ x. cond x (some (image ++ to_write may ls levels (number l ∷ ts))) none) never)
 
 -- and else it waits
-number_waits : (may : Bool) (ls : List ℕ) (levels : List (List ℕ)) (n l : ℕ) → l < 64 → Waits may ls levels n → Waits true (l ∷ ls) levels (n + 1)
-number_waits may ls levels n l h w = record { low = (h, w.low); deep = w.deep; before = λ _. (tt, omega arith); begun = λ _. omega arith }
+number_waits : (may : Bool) (ls : List ℕ) (levels : List (List ℕ)) (n l : ℕ) → Waits may ls levels n → Waits true (l ∷ ls) levels (n + 1)
+number_waits may ls levels n l w = record { deep = w.deep; before = λ _. (tt, omega arith); begun = λ _. omega arith }
 
-number_taken : (may : Bool) (ls : List ℕ) (levels : List (List ℕ)) (n l : ℕ) (ts : List Token) (image : List ℕ) → l < 64
+number_taken : (may : Bool) (ls : List ℕ) (levels : List (List ℕ)) (n l : ℕ) (ts : List Token) (image : List ℕ)
     → Waits may ls levels n → n < 2047 → Runs true (l ∷ ls) levels (n + 1) ts → is_full (kept may ls levels n image) ≡ false
     → accepts may (length levels) n (number l ∷ ts) ≡ accepts true (length levels) (n + 1) ts
     → run (going (kept may ls levels n image)) (number l ∷ ts)
     ≡ cond (accepts may (length levels) n (number l ∷ ts)) (some (image ++ to_write may ls levels (number l ∷ ts))) none
-number_taken may ls levels n l ts image h w few runs free same =
+number_taken may ls levels n l ts image w few runs free same =
     ap (λ x. run (cond x faulty (going (with_number l (kept may ls levels n image)))) ts) free
     ∙ ap (λ x. run (going (record { may = true; depth = length levels; nodes = n + 1; waiting = x; image = image ++ pad_if may })) ts)
     (sym (flat_number l ls levels))
-    ∙ runs (omega arith) (number_waits may ls levels n l h w) (image ++ pad_if may)
+    ∙ runs (omega arith) (number_waits may ls levels n l w) (image ++ pad_if may)
     ∙ ap (λ x. cond (accepts true (length levels) (n + 1) ts) (some x) none) (append_assoc image (pad_if may) (to_write true (l ∷ ls) levels ts))
     ∙ sym (ap (λ x. cond x (some (image ++ to_write may ls levels (number l ∷ ts))) none) same)
 
@@ -200,18 +195,18 @@ number_taken may ls levels n l ts image h w few runs free same =
 second_root : (n : ℕ) → 1 ≤ n → (r : ℕ) → eqb (roots_before n + suc r) 1 ≡ false
 second_root n h r = rw (lt-ltb 0 n h) (ne_eqb (1 + suc r) 1 (λ e. omega arith))
 
-number_runs : (l : ℕ) → l < 64 → (ts : List Token)
+number_runs : (l : ℕ) (ts : List Token)
     → ((may : Bool) (ls : List ℕ) (levels : List (List ℕ)) (n : ℕ) → Runs may ls levels n ts)
     → (may : Bool) (ls : List ℕ) (levels : List (List ℕ)) (n : ℕ) → Runs may ls levels n (number l ∷ ts)
-number_runs l h ts ih may ls [] zero few w image =
-    number_taken may ls [] zero l ts image h w (omega arith) (ih true (l ∷ ls) [] 1) refl
+number_runs l ts ih may ls [] zero few w image =
+    number_taken may ls [] zero l ts image w (omega arith) (ih true (l ∷ ls) [] 1) refl
     (let y : 0 + suc (numbers ts) ≡ 1 + numbers ts = omega arith in
     let z : 0 + suc (roots 0 ts) ≡ 1 + roots 0 ts = omega arith in
     rw (y, z))
-number_runs l h ts ih may ls [] (suc n) few w image =
+number_runs l ts ih may ls [] (suc n) few w image =
     number_refused may ls [] (suc n) l ts image (rw (lt-ltb 0 (suc n) (omega arith)))
     (ap (λ x. balanced true 0 ts && (x && leb (suc n + suc (numbers ts)) 2047)) (second_root (suc n) (omega arith) (roots 0 ts)) ∙ and_false (balanced true 0 ts))
-number_runs l h ts ih may ls (ms ∷ levels) n few w image = go (leb 2047 n) refl
+number_runs l ts ih may ls (ms ∷ levels) n few w image = go (leb 2047 n) refl
   where
     begun : 1 ≤ n
     begun = w.begun (omega arith)
@@ -227,7 +222,7 @@ number_runs l h ts ih may ls (ms ∷ levels) n few w image = go (leb 2047 n) ref
         (let many : leb (n + suc (numbers ts)) 2047 ≡ false = lt-leb (n + suc (numbers ts)) 2047 (omega (arith, leb-true 2047 n e)) in
         rw (many, and_false) (and_false (balanced true (suc (length levels)) ts)))
     go false e =
-        number_taken may ls (ms ∷ levels) n l ts image h w (omega (arith, leb-false 2047 n e)) (ih true (l ∷ ls) (ms ∷ levels) (n + 1))
+        number_taken may ls (ms ∷ levels) n l ts image w (omega (arith, leb-false 2047 n e)) (ih true (l ∷ ls) (ms ∷ levels) (n + 1))
         (inside (leb 2047 n) ∙ e)
         (let y : n + suc (numbers ts) ≡ n + 1 + numbers ts = omega arith in
         rw (lt-ltb 0 n begun, lt-ltb 0 (n + 1) (omega arith), y))
@@ -243,8 +238,7 @@ opening_runs ts ih true ls levels n few w image =
   where
     opened_waits : Waits false [] (ls ∷ levels) n
     opened_waits = record {
-      low = tt;
-      deep = ((w.before refl).0, w.low, w.deep);
+      deep = ((w.before refl).0, w.deep);
       before = λ e. absurd (false≢true e);
       begun = λ _. (w.before refl).1;
     }
@@ -252,8 +246,7 @@ opening_runs ts ih true ls levels n few w image =
 -- and are closed where some are open
 closed_waits : (may : Bool) (ls ms : List ℕ) (levels : List (List ℕ)) (n : ℕ) → Waits may ls (ms ∷ levels) n → Waits false ms levels n
 closed_waits may ls ms levels n w = record {
-  low = w.deep.1;
-  deep = w.deep.2;
+  deep = w.deep.1;
   before = λ e. absurd (false≢true e);
   begun = λ _. w.begun (omega arith);
 }
@@ -275,8 +268,8 @@ closing_runs ts ih may ls (ms ∷ levels) n few w image =
       may = false;
       depth = depth i;
       nodes = n;
-      waiting = outer_flat ls ms levels w.low w.deep.0 i;
-      image = image ++ (pad_if may ++ (1 ∷ 0 ∷ branches (inner_flat ls ms levels w.low w.deep.0 i)));
+      waiting = outer_flat ls ms levels w.deep.0 i;
+      image = image ++ (pad_if may ++ (1 ∷ 0 ∷ branches (inner_flat ls ms levels w.deep.0 i)));
     }
       where
         depth : suc (length levels) - 1 ≡ length levels
@@ -289,25 +282,25 @@ closing_runs ts ih may ls (ms ∷ levels) n few w image =
 end_runs : (may : Bool) (ls : List ℕ) (levels : List (List ℕ)) (n : ℕ) → Runs may ls levels n []
 end_runs may ls [] n few w image = go (ltb 0 n)
   where
-    go : (p : Bool) → cond p (some (image ++ (pad_if may ++ (1 ∷ 0 ∷ branches (inner ls))))) none
+    go : (p : Bool) → cond p (some (image ++ (pad_if may ++ (1 ∷ 0 ∷ branches (inner (map (with_brackets false) ls)))))) none
         ≡ cond (eqb (cond p 1 0 + 0) 1 && leb (n + 0) 2047) (some (image ++ (pad_if may ++ (1 ∷ 0 ∷ branches ls)))) none
-    go true = rw (le-leb (n + 0) 2047 (omega arith), inner_low ls w.low)
+    go true = rw (le-leb (n + 0) 2047 (omega arith), inner_all ls)
     go false = refl
 end_runs may ls (ms ∷ levels) n few w image = rw (ne_eqb (suc (length levels)) 0 (λ e. omega arith))
 
--- all tokens, whose labels are at most 63
-runs : (ts : List Token) → Fit ts → (may : Bool) (ls : List ℕ) (levels : List (List ℕ)) (n : ℕ) → Runs may ls levels n ts
-runs [] h = end_runs
-runs (number l ∷ ts) h = number_runs l (omega arith) ts (runs ts h.1)
-runs (opening ∷ ts) h = opening_runs ts (runs ts h)
-runs (closing ∷ ts) h = closing_runs ts (runs ts h)
+-- all tokens
+runs : (ts : List Token) (may : Bool) (ls : List ℕ) (levels : List (List ℕ)) (n : ℕ) → Runs may ls levels n ts
+runs [] = end_runs
+runs (number l ∷ ts) = number_runs l ts (runs ts)
+runs (opening ∷ ts) = opening_runs ts (runs ts)
+runs (closing ∷ ts) = closing_runs ts (runs ts)
 
 -- from the start: the image of the tree that the tokens are, if they are one
-pub tokens_image : (ts : List Token) → Fit ts → run (going nothing_kept) ts ≡ map image_bytes (closed_root (ending_of ts))
-tokens_image ts h = runs ts h false [] [] 0 (omega arith) nothing_waits [] ∙ go (accepts false 0 0 ts) refl
+pub tokens_image : (ts : List Token) → run (going nothing_kept) ts ≡ O.map image_bytes (closed_root (ending_of ts))
+tokens_image ts = runs ts false [] [] 0 (omega arith) nothing_waits [] ∙ go (accepts false 0 0 ts) refl
   where
     nothing_waits : Waits false [] [] 0
-    nothing_waits = record { low = tt; deep = tt; before = λ e. absurd (false≢true e); begun = λ few. absurd (omega arith) }
+    nothing_waits = record { deep = tt; before = λ e. absurd (false≢true e); begun = λ few. absurd (omega arith) }
 
     accepted : (w : WrittenTree) → closed_root (ending_of ts) ≡ some w → accepts false 0 0 ts ≡ true
     accepted w e =
@@ -315,7 +308,7 @@ tokens_image ts h = runs ts h false [] [] 0 (omega arith) nothing_waits [] ∙ g
         rw (b, eq-eqb (0 + roots 0 ts) 1 (omega arith), le-leb (0 + numbers ts) 2047 (omega arith))
 
     go : (p : Bool) → accepts false 0 0 ts ≡ p
-        → cond p (some (to_write false [] [] ts)) none ≡ map image_bytes (closed_root (ending_of ts))
+        → cond p (some (to_write false [] [] ts)) none ≡ O.map image_bytes (closed_root (ending_of ts))
     go true e =
         let (b, x) = both_true (balanced false 0 ts) _ e in
         let (r, few) = both_true (eqb (0 + roots 0 ts) 1) (leb (0 + numbers ts) 2047) x in
@@ -323,6 +316,6 @@ tokens_image ts h = runs ts h false [] [] 0 (omega arith) nothing_waits [] ∙ g
         rw one (ap {B = Option (List ℕ)} some (image_written ts w (closed_root_read (ending_of ts) w one).0))
     go false e = none_read (closed_root (ending_of ts)) refl
       where
-        none_read : (o : Option WrittenTree) → closed_root (ending_of ts) ≡ o → none ≡ map image_bytes o
+        none_read : (o : Option WrittenTree) → closed_root (ending_of ts) ≡ o → none ≡ O.map image_bytes o
         none_read none z = refl
         none_read (some w) z = absurd (false≢true (sym e ∙ accepted w z))

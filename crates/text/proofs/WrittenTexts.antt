@@ -1,13 +1,16 @@
 -- The pass over an image from its last byte to its first writes the canonical text.
 use mathlib.Core.Path.{◌≡◌, refl, sym, ◌∙◌, ap}
-use mathlib.Core.Bool.{Bool, true, false}
+use mathlib.Core.Bool.{Bool, true, false, cond}
 use mathlib.Core.List.{List, [], ◌∷◌, ◌++◌, append_assoc, append-nil, reverse, reverse-append}
-use Prim.Native.Nat.{ℕ}
-use Rattle.paper.specs.WrittenTree.{Forest, nil, tree, WrittenTree, forest_of}
+use Prim.Native.Nat.{ℕ, suc, ◌+◌}
+use native.Mathlib.Omega.{arith}
+use lib.Dec.{eqb}
+use Rattle.paper.specs.WrittenTree.{Forest, nil, tree, WrittenTree, forest_nodes, forest_of, written_nodes}
 use Rattle.paper.specs.BracketedText.{decimal}
 use Rattle.paper.specs.CanonicalText.{bracketed, between, forest_text, text_of}
 use Rattle.paper.specs.Image.{forest_bytes, image_bytes}
-use Rattle.text.specs.WriteText.{Waiting, others, children, inside, blank_if, completed, text_before}
+use Rattle.text.specs.declared.canonical.Waiting.TheVariants.{Others, Children, Inside}
+use Rattle.text.specs.WriteText.{Waiting, blank_if, completed, text_before}
 
 -- the image's bytes from the last to the first
 abbrev pub bytes_back : Forest → List ℕ
@@ -31,17 +34,17 @@ blank_between (tree l c s) t = refl
 -- what is written for a forest where a node waits for its others, and where one waits for its children
 record Back (f : Forest) : Type 0 where
   as_others : (l : ℕ) (ws : List Waiting) (bytes : List ℕ)
-      → text_before (others l ∷ ws) (bytes_back f ++ bytes) ≡ text_before (children l (some f) ∷ ws) bytes ++ forest_text f
+      → text_before (Others l ∷ ws) (bytes_back f ++ bytes) ≡ text_before (Children l (some f) ∷ ws) bytes ++ forest_text f
   as_children : (l : ℕ) (b : Bool) (ws : List Waiting) (bytes : List ℕ)
-      → text_before (children l b ∷ ws) (bytes_back f ++ bytes)
+      → text_before (Children l b ∷ ws) (bytes_back f ++ bytes)
       ≡ text_before (completed ws).0 bytes ++ ((completed ws).1 ++ (decimal l ++ (bracketed f (forest_text f) ++ blank_behind f b)))
 
 -- a tree's others and then its children are read
 both_read : (m : ℕ) (c s : Forest) → Back c → Back s → (ws : List Waiting) (bytes : List ℕ)
-    → text_before (others m ∷ ws) ((bytes_back s ++ bytes_back c) ++ bytes)
+    → text_before (Others m ∷ ws) ((bytes_back s ++ bytes_back c) ++ bytes)
     ≡ text_before (completed ws).0 bytes ++ ((completed ws).1 ++ forest_text (tree m c s))
 both_read m c s hc hs ws bytes =
-    ap (text_before (others m ∷ ws)) (append_assoc (bytes_back s) (bytes_back c) bytes)
+    ap (text_before (Others m ∷ ws)) (append_assoc (bytes_back s) (bytes_back c) bytes)
     ∙ hs.as_others m ws (bytes_back c ++ bytes)
     ∙ ap (λ x. x ++ forest_text s) (hc.as_children m (some s) ws bytes)
     ∙ rw (blank_between c s) (label_written (text_before (completed ws).0 bytes) (completed ws).1 (decimal m) (bracketed c (forest_text c)) (between c s) (forest_text s))
@@ -55,9 +58,9 @@ brackets_written x y d t = simp (append_assoc, append-nil)
 forest_back : (f : Forest) → Back f
 forest_back nil = record { as_others = λ l ws bytes. refl; as_children = λ l b ws bytes. refl }
 forest_back (tree m c s) = let hc = forest_back c in let hs = forest_back s in record {
-  as_others = λ l ws bytes. append-nil _ ∙ both_read m c s hc hs (others l ∷ ws) bytes;
+  as_others = λ l ws bytes. append-nil _ ∙ both_read m c s hc hs (Others l ∷ ws) bytes;
   as_children = λ l b ws bytes.
-      ap (λ x. x ++ (41 ∷ [])) (both_read m c s hc hs (inside l ∷ ws) bytes)
+      ap (λ x. x ++ (41 ∷ [])) (both_read m c s hc hs (Inside l ∷ ws) bytes)
       ∙ brackets_written (text_before (completed ws).0 bytes) (completed ws).1 (decimal l) (forest_text (tree m c s));
 }
 
@@ -68,15 +71,33 @@ bytes_back_lem (tree l c s) =
     ∙ ap (λ x. x ++ reverse (forest_bytes c)) (reverse-append (forest_bytes s) (2 ∷ l ∷ []))
     ∙ rw (bytes_back_lem c, bytes_back_lem s)
 
--- behind the root's own record, from the last byte to the first
-abbrev pub behind_root : WrittenTree → List ℕ
-behind_root w = bytes_back nil ++ bytes_back w.children
+-- ---- the whole image
+-- the image's bytes from the last to the first
+abbrev pub image_back : WrittenTree → List ℕ
+image_back w = bytes_back (forest_of w)
 
-pub root_last : (w : WrittenTree) → reverse (image_bytes w) ≡ w.label ∷ 2 ∷ behind_root w
-root_last w = bytes_back_lem (forest_of w)
+pub reverse-image : (w : WrittenTree) → reverse (image_bytes w) ≡ image_back w
+reverse-image w = bytes_back_lem (forest_of w)
 
--- where the root waits, the rest of the image makes the text
-pub text_written : (w : WrittenTree) → text_before (others w.label ∷ []) (behind_root w) ≡ text_of w
+-- where none waits, they make the text
+pub text_written : (w : WrittenTree) → text_before [] (image_back w) ≡ text_of w
 text_written w =
-    ap (text_before (others w.label ∷ [])) (sym (append-nil (behind_root w)))
+    append-nil (text_before (Others w.label ∷ []) (bytes_back nil ++ bytes_back w.children))
+    ∙ ap (text_before (Others w.label ∷ [])) (sym (append-nil (bytes_back nil ++ bytes_back w.children)))
     ∙ both_read w.label w.children nil (forest_back w.children) (forest_back nil) [] []
+
+-- ---- branches
+-- so many records of them are no pads
+abbrev pub branches_in : List ℕ → ℕ
+branches_in [] = 0
+branches_in (l ∷ []) = 0
+branches_in (l ∷ k ∷ bytes) = cond (eqb k 1) (branches_in bytes) (suc (branches_in bytes))
+
+forest_branches : (f : Forest) (bytes : List ℕ) → branches_in (bytes_back f ++ bytes) ≡ forest_nodes f + branches_in bytes
+forest_branches nil bytes = omega arith
+forest_branches (tree l c s) bytes =
+    ap (λ t. suc (branches_in t)) (append_assoc (bytes_back s) (bytes_back c) bytes)
+    ∙ omega (arith, forest_branches s (bytes_back c ++ bytes), forest_branches c bytes)
+
+pub image_branches : (w : WrittenTree) → branches_in (image_back w) ≡ written_nodes w
+image_branches w = ap branches_in (sym (append-nil (image_back w))) ∙ omega (arith, forest_branches (forest_of w) [])

@@ -12,11 +12,3 @@ longest_image = 8190
 -- a canonical text: two digits for each written node, and two brackets, or one blank instead of these
 abbrev pub longest_text : ℕ
 longest_text = 8188
-
--- the modes behind those of a number, which is its own: between tokens, and a refusal. A label whose brackets are open has as much more
--- as the first of them, so that no label looks like one
-abbrev pub between_tokens : ℕ
-between_tokens = 64
-
-abbrev pub refused_mode : ℕ
-refused_mode = 65

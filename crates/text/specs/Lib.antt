@@ -1,6 +1,9 @@
+pub mod Stack
 pub mod Face
 pub mod Bounds
 pub mod Pass
+pub mod Told
+pub mod Room
 pub mod Reading
 pub mod JudgeImage
 pub mod WriteText

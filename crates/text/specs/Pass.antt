@@ -5,34 +5,38 @@ use Rattle.std.proofs.Math.Option.{Option, none, some}
 use Rattle.paper.specs.BracketedText.{Token, number, opening, closing}
 use Rattle.writings.specs.ReadText.{Symbol, is_blank, is_line_end, is_mark, is_opening, is_closing, is_wrong, Sign, digit, symbol, sign_of, Mode, outside, in_number, in_comment}
 use Rattle.text.specs.Bounds.{most_written}
+pub use Rattle.text.specs.declared.records.Label.{Label}
 
 -- ---- the labels that wait
--- They stand in one list, the last label first, with 64 more where the label's own brackets are open. A branch is written when its
--- children and its later siblings are, so at the end of the brackets that it stands in.
+-- They stand in one list, the last label first, each with whether its own brackets are open. A branch is written when its children and its
+-- later siblings are, so at the end of the brackets that it stands in.
 
 -- the branches of labels, one after the other
 abbrev pub branches : List ℕ → List ℕ
 branches [] = []
 branches (l ∷ ls) = 2 ∷ l ∷ branches ls
 
+abbrev pub with_brackets : Bool → ℕ → Label
+with_brackets is_open l = record { number = l; is_open = is_open }
+
 -- the first label's brackets are opened
-abbrev pub opened : List ℕ → List ℕ
+abbrev pub opened : List Label → List Label
 opened [] = []
-opened (l ∷ ls) = (l + 64) ∷ ls
+opened (l ∷ ls) = with_brackets true l.number ∷ ls
 
 -- the labels inside the innermost open brackets, and those from the label of these brackets on
-abbrev pub inner : List ℕ → List ℕ
+abbrev pub inner : List Label → List ℕ
 inner [] = []
-inner (l ∷ ls) = cond (ltb l 64) (l ∷ inner ls) []
+inner (l ∷ ls) = cond l.is_open [] (l.number ∷ inner ls)
 
-abbrev pub outer : List ℕ → List ℕ
+abbrev pub outer : List Label → List Label
 outer [] = []
-outer (l ∷ ls) = cond (ltb l 64) (outer ls) (l ∷ ls)
+outer (l ∷ ls) = cond l.is_open (l ∷ ls) (outer ls)
 
 -- the first label's brackets are closed
-abbrev pub closed : List ℕ → List ℕ
+abbrev pub closed : List Label → List Label
 closed [] = []
-closed (l ∷ ls) = (l - 64) ∷ ls
+closed (l ∷ ls) = with_brackets false l.number ∷ ls
 
 -- ---- tokens
 -- a number stands just before, which may have brackets; the open brackets; the written nodes; the labels that wait; the image so far
@@ -40,7 +44,7 @@ pub record Kept : Type 0 where
   pub may : Bool
   pub depth : ℕ
   pub nodes : ℕ
-  pub waiting : List ℕ
+  pub waiting : List Label
   pub image : List ℕ
 
 abbrev pub nothing_kept : Kept
@@ -64,16 +68,19 @@ with_number l k = record {
   may = true;
   depth = k.depth;
   nodes = k.nodes + 1;
-  waiting = l ∷ k.waiting;
+  waiting = with_brackets false l ∷ k.waiting;
   image = k.image ++ pad_if k.may;
 }
 
 abbrev pub with_opening : Kept → Kept
 with_opening k = record { may = false; depth = k.depth + 1; nodes = k.nodes; waiting = opened k.waiting; image = k.image }
 
--- the siblings end: the last has no next one, which is a pad, and then come their branches
+-- siblings with these labels end: the last has no next one, which is a pad, and then come their branches
+abbrev pub siblings_end : Bool → List ℕ → List ℕ
+siblings_end may ls = pad_if may ++ (1 ∷ 0 ∷ branches ls)
+
 abbrev pub siblings_ended : Kept → List ℕ
-siblings_ended k = k.image ++ (pad_if k.may ++ (1 ∷ 0 ∷ branches (inner k.waiting)))
+siblings_ended k = k.image ++ siblings_end k.may (inner k.waiting)
 
 abbrev pub with_closing : Kept → Kept
 with_closing k = record {

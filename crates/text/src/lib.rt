@@ -7,54 +7,34 @@ mod bytes;
 mod canonical;
 mod image;
 mod pass;
-mod reading;
 mod records;
+mod stack;
 mod tokens;
 
 use crate::bytes::copy_to_start;
-use crate::canonical::{LONGEST_TEXT, write_text};
+use crate::canonical::write_text;
 use crate::image::{RECORD, is_image};
 use crate::pass::read_text;
-use crate::reading::is_whole;
-use crate::records::end_siblings;
+use paper::Refusal;
 use paper::limits::MOST_WRITTEN_NODES;
-use paper::{Converted, Refusal};
 
 // At most so many bytes: a branch for each written node, and one pad more. An output of so many is never too short for an image.
 pub const LONGEST_IMAGE: usize = RECORD * (2 * MOST_WRITTEN_NODES + 1);
 
 // Text to tree: refusals 15 and 10. The image is made apart while the text is judged, since a refusal leaves the output as it was.
-pub fn text_to_tree(text: &[u8], out: &mut [u8]) -> Converted
+pub fn text_to_tree(text: &[u8], out: &mut [u8]) -> Result<usize, Refusal>
     ensures { MakesTree text.now out.old result out.new }
 {
-    let mut labels = [0u8; MOST_WRITTEN_NODES];
-    let mut image = [0u8; LONGEST_IMAGE];
-    let s = read_text(text, &mut labels, &mut image);
-    if !is_whole(s) {
-        return Converted::Refused(Refusal::Text);
-    }
-    let ended = end_siblings(s, &labels, &mut image);
-    let bytes = ended.bytes;
-    if out.len() < bytes {
-        return Converted::Refused(Refusal::ShortOutput);
-    }
-    copy_to_start(&image[..bytes], &mut *out);
-    Converted::Bytes(bytes)
+    read_text(text, out)
 }
 
 // The way back, into the canonical text: refusals 15 and 10. The text is made apart, so that an output that is too short stays as it is.
-pub fn tree_to_text(tree: &[u8], out: &mut [u8]) -> Converted
+pub fn tree_to_text(tree: &[u8], out: &mut [u8]) -> Result<usize, Refusal>
     ensures { MakesText tree.now out.old result out.new }
 {
     if !is_image(tree) {
-        return Converted::Refused(Refusal::Text);
+        return Err(Refusal::Text);
     }
-    let mut text = [0u8; LONGEST_TEXT];
-    let start = write_text(tree, &mut text);
-    let text_length = LONGEST_TEXT - start;
-    if out.len() < text_length {
-        return Converted::Refused(Refusal::ShortOutput);
-    }
-    copy_to_start(&text[start..], &mut *out);
-    Converted::Bytes(text_length)
+    let text = write_text(tree);
+    copy_to_start(text.as_slice(), out)
 }

@@ -1,67 +1,98 @@
-// The image as it grows: pads, and the branches of labels that have waited. Each function answers how many bytes the image has then.
-ghost use Rattle.std.specs.Prelude.{[], ◌∷◌, ◌+◌, ◌*◌, ◌≤◌, length, drop};
-ghost use Rattle.text.specs.Pass.{pad_if};
-ghost use Rattle.text.specs.Reading.{Adds, Branches, Ended, Room};
+// The image as it grows: pads, and the branches of labels that have waited.
+ghost use Rattle.std.specs.Prelude.{[], ◌∷◌, ◌++◌, ◌+◌, ◌*◌, ◌≡◌, ◌≤◌, length};
+ghost use Rattle.text.specs.Bounds.{longest_image};
+ghost use Rattle.text.specs.Pass.{closed, inner, outer, pad_if, siblings_end};
+ghost use Rattle.text.specs.Room.{one};
 
+use crate::LONGEST_IMAGE;
 use crate::image::RECORD;
-use crate::reading::{Reading, YES};
+use crate::stack::Stack;
 use paper::kinds::{BRANCH, LEAF};
-use paper::limits::{HIGHEST_LABEL, PAD_LABEL};
+use paper::limits::{MOST_WRITTEN_NODES, PAD_LABEL};
+use std::marker::Model;
 
-// What a label has more while its brackets are open. So a byte has room for both.
-pub(crate) const OPEN: u8 = HIGHEST_LABEL + 1;
-
-// What is left of the labels that wait, and how many bytes the image has.
-#[derive(Clone, Copy)]
-pub(crate) struct Grown {
-    pub(crate) first: usize,
-    pub(crate) bytes: usize,
+// A label that waits for its branch, and whether its brackets are open.
+#[derive(Clone, Copy, Debug, PartialEq, Eq)]
+pub(crate) struct Label {
+    pub(crate) number: u8,
+    pub(crate) is_open: bool,
 }
 
-fn put_record(image: &mut [u8], at: usize, kind: u8, label: u8) -> usize
-    requires { at + 2 ≤ length image.old }
-    ensures { Adds (kind ∷ label ∷ []) at image.old result image.new }
-{
-    image[at] = kind;
-    image[at + 1] = label;
-    at + RECORD
+// The last read before the others.
+pub(crate) type Labels = Stack<Label, MOST_WRITTEN_NODES>;
+
+// So many bytes of the array are the image by now.
+#[derive(Drop)]
+pub(crate) struct Image {
+    bytes: [u8; LONGEST_IMAGE],
+    length: usize,
 }
 
-// The pad of a number that turns out to have no brackets.
-pub(crate) fn put_pad_if(may: bool, image: &mut [u8], at: usize) -> usize
-    requires { at + 2 ≤ length image.old }
-    ensures { Adds (pad_if may) at image.old result image.new }
-{
-    if may {
-        return put_record(&mut *image, at, LEAF, PAD_LABEL);
+impl Model for Image {
+    ghost use Rattle.std.specs.Prelude.{List, ℕ, ◌≤◌, take};
+    ghost use Rattle.text.specs.Bounds.{longest_image};
+
+    ghost Value = { List ℕ };
+
+    ghost view = { λ i. take i.length i.bytes };
+
+    ghost invariant = { λ i. i.length ≤ longest_image };
+}
+
+impl Image {
+    pub(crate) fn new() -> Self
+        ensures { result ≡ [] }
+    {
+        Image {
+            bytes: [0; LONGEST_IMAGE],
+            length: 0,
+        }
     }
-    at
+
+    fn put(&mut self, kind: u8, label: u8)
+        requires { length self.old + 2 ≤ longest_image }
+        ensures { self.new ≡ self.old ++ kind ∷ label ∷ [] }
+    {
+        self.bytes[self.length] = kind;
+        self.bytes[self.length + 1] = label;
+        self.length += RECORD;
+    }
+
+    // The pad of a number that turns out to have no brackets.
+    pub(crate) fn put_pad_if(&mut self, may_open: bool)
+        requires { length self.old + 2 ≤ longest_image }
+        ensures { self.new ≡ self.old ++ pad_if may_open }
+    {
+        if may_open {
+            self.put(LEAF, PAD_LABEL);
+        }
+    }
+
+    pub(crate) fn as_slice(&self) -> &[u8]
+        ensures { result.now ≡ self.now }
+    {
+        &self.bytes[..self.length]
+    }
 }
 
-// The branches of the labels inside the innermost open brackets, the last label first. The loop ends at the label of these brackets,
-// which is marked, or behind the last label.
-fn put_branches(labels: &[u8], first: usize, image: &mut [u8], at: usize) -> Grown
-    requires { (first ≤ length labels.now) × (at + 2 * length (drop first labels.now) ≤ length image.old) }
-    ensures { Branches labels.now first image.old at result image.new }
+// Where siblings end: the last of them has no next sibling, and, if it stands just before, no child. Then come the branches of the labels
+// inside the innermost open brackets, the last label first, and these brackets are closed.
+pub(crate) fn end_siblings(may_open: bool, waiting: &mut Labels, image: &mut Image)
+    requires { length image.old + 2 * one may_open + 2 + 2 * length waiting.old ≤ longest_image }
+    ensures labels { waiting.new ≡ closed (outer waiting.old) }
+    ensures records { image.new ≡ image.old ++ siblings_end may_open (inner waiting.old) }
 {
-    let mut next = first;
-    let mut end = at;
-    while next < labels.len() && labels[next] < OPEN {
-        end = put_record(&mut *image, end, BRANCH, labels[next]);
-        next += 1;
+    image.put_pad_if(may_open);
+    image.put(LEAF, PAD_LABEL);
+    // Ends where no label waits at the latest: each turn takes one.
+    while let Some(label) = waiting.pop() {
+        if label.is_open {
+            waiting.push(Label {
+                is_open: false,
+                ..label
+            });
+            return;
+        }
+        image.put(BRANCH, label.number);
     }
-    Grown {
-        first: next,
-        bytes: end,
-    }
-}
-
-// Where siblings end: the last of them has no next sibling, and, if it stands just before, no child. Then their branches.
-pub(crate) fn end_siblings(s: Reading, labels: &[u8], image: &mut [u8]) -> Grown
-    requires { Room s labels.now image.old }
-    ensures { Ended s labels.now image.old result image.new }
-{
-    let child = put_pad_if(s.may == YES, &mut *image, s.bytes);
-    let sibling = put_record(&mut *image, child, LEAF, PAD_LABEL);
-    put_branches(labels, s.first, &mut *image, sibling)
 }

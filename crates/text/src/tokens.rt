@@ -1,102 +1,134 @@
 // What a number, an opening and a closing bracket change: what is kept, the labels that wait, the image.
-ghost use Rattle.std.specs.Prelude.{◌&&◌, ◌||◌, ◌≡◌, ◌≤◌, ◌<◌, eqb, leb, ltb, length, get_or};
-ghost use Rattle.paper.specs.BracketedText.{closing, opening};
-ghost use Rattle.writings.specs.ReadText.{outside};
-ghost use Rattle.text.specs.Bounds.{between_tokens, most_written};
-ghost use Rattle.text.specs.Pass.{step, within};
-ghost use Rattle.text.specs.Reading.{Closes, EndsNumber, Leaves, Room, kept_in};
+ghost use Rattle.std.specs.Prelude.{◌≡◌};
+ghost use Rattle.paper.specs.BracketedText.{closing, number, opening};
+ghost use Rattle.text.specs.Pass.{is_full, nothing_kept, step, whole_image};
+ghost use Rattle.text.specs.Reading.{step_to};
+ghost use Rattle.text.specs.Told.{told};
 
-use crate::reading::{NO, OUTSIDE, Reading, YES, stop};
-use crate::records::{OPEN, end_siblings, put_pad_if};
+use crate::bytes::copy_to_start;
+use crate::records::{Image, Label, Labels, end_siblings};
+use crate::stack::Stack;
+use paper::Refusal;
 use paper::limits::MOST_WRITTEN_NODES;
+use std::marker::Model;
 
-// Whether no number may follow: there is a root already, or there are as many written nodes as there may be.
-fn is_full(depth: usize, nodes: usize) -> bool
-    ensures { result ≡ (eqb depth 0 && ltb 0 nodes) || leb most_written nodes }
-{
-    if MOST_WRITTEN_NODES <= nodes {
-        return true;
-    }
-    if 0 < depth {
-        return false;
-    }
-    0 < nodes
-}
+// The text is outside the rules.
+#[derive(Clone, Copy, Debug, PartialEq, Eq)]
+pub(crate) struct Fault;
 
-// The number that was read is a label, and waits. The one just before it has no brackets then.
-fn put_number(s: Reading, labels: &mut [u8], image: &mut [u8]) -> Reading
-    requires { (s.mode < between_tokens) × Room s labels.old image.old }
-    ensures { EndsNumber s labels.old image.old result labels.new image.new }
-{
-    if is_full(s.depth, s.nodes) {
-        return stop(s);
-    }
-    let first = s.first - 1;
-    labels[first] = s.mode as u8;
-    let bytes = put_pad_if(s.may == YES, &mut *image, s.bytes);
-    Reading {
-        mode: OUTSIDE,
-        depth: s.depth,
-        nodes: s.nodes + 1,
-        first: first,
-        bytes: bytes,
-        may: YES,
+impl From<Fault> for Refusal {
+    ghost use Rattle.std.specs.Prelude.{◌≡◌};
+    ghost use Rattle.paper.specs.declared.Refusal.TheVariants.{Text};
+
+    ghost from_gives = { λ fault why. why ≡ Text };
+
+    fn from(_: Fault) -> Refusal {
+        Refusal::Text
     }
 }
 
-// Ends a number, if one is being read.
-pub(crate) fn end_number(s: Reading, labels: &mut [u8], image: &mut [u8]) -> Reading
-    requires { Room s labels.old image.old }
-    ensures { EndsNumber s labels.old image.old result labels.new image.new }
-{
-    if s.mode < OUTSIDE {
-        return put_number(s, &mut *labels, &mut *image);
-    }
-    s
+// Of the tokens so far: whether a number stands just before, which may have brackets; how many brackets are open, and how many nodes are
+// written; the labels that wait; and the image.
+#[derive(Drop)]
+pub(crate) struct Kept {
+    may_open: bool,
+    depth: usize,
+    nodes: usize,
+    waiting: Labels,
+    image: Image,
 }
 
-// Brackets stand behind a number only, whose label is the first that waits.
-pub(crate) fn open_brackets(s: Reading, labels: &mut [u8], image: &[u8]) -> Reading
-    requires { (s.mode ≡ between_tokens) × Room s labels.old image.now }
-    ensures { Leaves (within outside (step (kept_in s labels.old image.now) opening)) result labels.new image.now }
-{
-    if s.may != YES {
-        return stop(s);
-    }
-    let first = s.first;
-    labels[first] = labels[first] + OPEN;
-    let mut t = s;
-    t.depth = s.depth + 1;
-    t.may = NO;
-    t
+impl Model for Kept {
+    ghost use Rattle.text.specs.Pass.{Kept as TheKept};
+    ghost use Rattle.text.specs.Room.{Room};
+
+    ghost Value = { TheKept };
+
+    ghost view = { λ k. record { may = k.may_open; depth = k.depth; nodes = k.nodes; waiting = k.waiting; image = k.image } };
+
+    ghost invariant = { λ k. Room (record { may = k.may_open; depth = k.depth; nodes = k.nodes; waiting = k.waiting; image = k.image }) };
 }
 
-// The brackets of the first label that waits are closed. There always is one, but nothing here leans on it.
-fn close_first(labels: &mut [u8], first: usize)
-    requires { first < length labels.old → between_tokens ≤ get_or labels.old first 0 }
-    ensures { Closes labels.old first labels.new }
-{
-    if first < labels.len() {
-        labels[first] = labels[first] - OPEN;
+impl Kept {
+    // Before the first token.
+    pub(crate) fn new() -> Self
+        ensures { result ≡ nothing_kept }
+    {
+        Kept {
+            may_open: false,
+            depth: 0,
+            nodes: 0,
+            waiting: Stack::new(Label {
+                number: 0,
+                is_open: false,
+            }),
+            image: Image::new(),
+        }
     }
-}
 
-// The labels inside the brackets have waited long enough.
-pub(crate) fn close_brackets(s: Reading, labels: &mut [u8], image: &mut [u8]) -> Reading
-    requires { (s.mode ≡ between_tokens) × Room s labels.old image.old }
-    ensures { Leaves (within outside (step (kept_in s labels.old image.old) closing)) result labels.new image.new }
-{
-    if s.depth == 0 {
-        return stop(s);
+    // Whether no number may follow: there is a root already, or there are as many written nodes as there may be.
+    fn is_full(&self) -> bool
+        ensures { result ≡ is_full self.now }
+    {
+        (self.depth == 0 && 0 < self.nodes) || MOST_WRITTEN_NODES <= self.nodes
     }
-    let ended = end_siblings(s, &*labels, &mut *image);
-    close_first(&mut *labels, ended.first);
-    Reading {
-        mode: s.mode,
-        depth: s.depth - 1,
-        nodes: s.nodes,
-        first: ended.first,
-        bytes: ended.bytes,
-        may: NO,
+
+    // A number is a label, and waits. The one just before it has no brackets then.
+    pub(crate) fn put_number(&mut self, label: u8) -> Result<(), Fault>
+        ensures { step_to result self.new ≡ step self.old (number label) }
+    {
+        if self.is_full() {
+            return Err(Fault);
+        }
+        self.image.put_pad_if(self.may_open);
+        self.waiting.push(Label {
+            number: label,
+            is_open: false,
+        });
+        self.nodes += 1;
+        self.may_open = true;
+        Ok(())
+    }
+
+    // Brackets stand behind a number only, whose label is the first that waits.
+    pub(crate) fn open_brackets(&mut self) -> Result<(), Fault>
+        ensures { step_to result self.new ≡ step self.old opening }
+    {
+        if !self.may_open {
+            return Err(Fault);
+        }
+        if let Some(label) = self.waiting.pop() {
+            self.waiting.push(Label {
+                is_open: true,
+                ..label
+            });
+        }
+        self.depth += 1;
+        self.may_open = false;
+        Ok(())
+    }
+
+    // The labels inside the brackets have waited long enough.
+    pub(crate) fn close_brackets(&mut self) -> Result<(), Fault>
+        ensures { step_to result self.new ≡ step self.old closing }
+    {
+        if self.depth == 0 {
+            return Err(Fault);
+        }
+        end_siblings(self.may_open, &mut self.waiting, &mut self.image);
+        self.depth -= 1;
+        self.may_open = false;
+        Ok(())
+    }
+
+    // The image, if the tokens were those of a tree: every bracket is closed, and there is a root.
+    pub(crate) fn put_image(mut self, out: &mut [u8]) -> Result<usize, Refusal>
+        ensures { (result, out.new) ≡ told (whole_image self) out.old }
+    {
+        if self.depth != 0 || self.nodes == 0 {
+            return Err(Refusal::Text);
+        }
+        end_siblings(self.may_open, &mut self.waiting, &mut self.image);
+        copy_to_start(self.image.as_slice(), out)
     }
 }

@@ -1,14 +1,13 @@
--- What is told of an input, on plain values: what `text_to_tree` and `put_refusal` leave in the output is it, and it is one.
-use mathlib.Core.List.{List}
+-- What is told of an input, on plain values: what `text_to_tree` leaves in the output and `put_refusal` in a text is it, and it is one.
+use mathlib.Core.List.{List, []}
 use mathlib.Core.Path.{◌∙◌, ◌≡◌, ap, refl, subst, sym}
 use Prim.Native.Nat.{◌≤◌, ℕ}
 use native.Mathlib.Omega.{arith}
 use lib.ListN.{drop, length, take}
 use lib.Seq.{take_at}
-use Rattle.paper.specs.declared.Converted.{Converted}
-use Rattle.paper.specs.declared.Converted.TheVariants as ConvertedIs
+use Rattle.std.specs.Prelude.{IfErr, IfOk, Result, Ok, Err}
 use Rattle.paper.specs.declared.Refusal.{Refusal}
-use Rattle.paper.specs.Answers.{no_of, says_converted, told}
+use Rattle.paper.specs.Answers.{no_of, told}
 use Rattle.paper.specs.Conversions.{TreeReply, no_room, of_none, the_result}
 use Rattle.paper.specs.Image.{image_bytes}
 use Rattle.paper.specs.Refusals.{No, Reply, answer, output_after, refused}
@@ -16,21 +15,12 @@ use Rattle.laws.proofs.Replies.{answer_inj, refused_inj, refused_not_answer}
 use Rattle.writings.proofs.ImageTrees.{image_short}
 use Rattle.writings.proofs.Texts.{one_tree, writes_allowed}
 use Rattle.text.specs.Face.{MakesTree}
+use Rattle.lines.specs.Bounds.{longest_refusal}
 use Rattle.lines.specs.Put.{put_refusal}
 use Rattle.lines.specs.Text.{refusal_text}
 use Rattle.lines.proofs.Putting.{puts_refusal, refusal_short}
 use Rattle.tree.specs.Telling.{Stands, Tells, longest_image, longest_input}
 use Rattle.tree.specs.Telling as T
-
--- the line of a refusal stands in an output that is long enough
-pub line_stands : (input : List ℕ) (n : No) → Tells input (refusal_text n) → (out : List ℕ) → length out ≡ longest_image
-    → {end : ℕ} {out' : List ℕ} → length out' ≡ longest_image → put_refusal n (0, out) ≡ (end, out') → Stands input end out'
-line_stands input n tells out long {end} {out'} long' e =
-    let short = refusal_short n in
-    let put = puts_refusal n 0 out (omega (arith, short, long)) e in record {
-      within = omega (arith, put.ends, short, long');
-      tells = subst (Tells input) (sym put.stands) tells;
-    }
 
 module _ (input out : List ℕ) (short : length input ≤ longest_input) (long : length out ≡ longest_image) where
   -- a refusal is 15
@@ -53,12 +43,19 @@ module _ (input out : List ℕ) (short : length input ≤ longest_input) (long :
         tells = subst (Tells input) (sym stands) (T.the_records short h);
       }
 
-  module _ (r : Converted) (out' : List ℕ) (M : MakesTree input out r out') where
-    pub refused_tells : (why : Refusal) → r ≡ ConvertedIs.Refused why → Tells input (refusal_text (no_of why))
-    refused_tells why e = reply_refused M.reply M.right (no_of why) (sym (ap says_converted e) ∙ M.answer)
+  pub answer_stands : (r : Result ℕ Refusal) (out' : List ℕ) → MakesTree input out r out' → length out' ≡ longest_image
+      → IfOk r (λ n. Stands input n out')
+  answer_stands (Ok n) out' M long' = reply_answered M.reply M.right n M.answer out' long' M.written
+  answer_stands (Err why) out' M long' = tt
 
-    pub answered_stands : (n : ℕ) → r ≡ ConvertedIs.Bytes n → length out' ≡ longest_image → Stands input n out'
-    answered_stands n e long' = reply_answered M.reply M.right n (sym (ap says_converted e) ∙ M.answer) out' long' M.written
+  pub refusal_tells : (r : Result ℕ Refusal) (out' : List ℕ) → MakesTree input out r out' → IfErr r (λ why. Tells input (refusal_text (no_of why)))
+  refusal_tells (Ok n) out' M = tt
+  refusal_tells (Err why) out' M = reply_refused M.reply M.right (no_of why) M.answer
+
+-- the line of a refusal has room in a text of its own
+pub line_tells : (input : List ℕ) (n : No) (line : List ℕ) → Tells input (refusal_text n) → line ≡ put_refusal longest_refusal n [] → Tells input line
+line_tells input n line told e =
+    subst (Tells input) (sym (e ∙ puts_refusal longest_refusal n [] (omega (arith, refusal_short n)))) told
 
 -- ---- one text
 -- what is told of an input is told of it alone: two that are allowed are one

@@ -1,14 +1,16 @@
-// The tree program: a bracketed text on standard input, its tree records on standard output, or one line with a number. First what is
-// told of an input, then handing it on, and last what is read. `text` reads and writes the tree, and `lines` the line of a refusal.
+// The tree program: a bracketed text on standard input, its tree records on standard output, or one line with a number. First the records
+// of an input, then what is told of it, handed on, and last what is read. `text` makes the records, and `lines` the line of a refusal.
 #![tactic(auto)]
 
-ghost use Rattle.std.specs.Prelude.{◌≡◌, length};
+ghost use Rattle.std.specs.Prelude.{IfErr, IfOk};
+ghost use Rattle.paper.specs.Answers.{no_of};
 ghost use Rattle.tree.specs.Handing.{HandsOn};
-ghost use Rattle.tree.specs.Telling.{longest_image, Stands};
+ghost use Rattle.tree.specs.Telling.{Stands, Tells};
+ghost use Rattle.lines.specs.Text.{refusal_text};
 
-use crate::handed::{Handed, STDOUT_FILENO, hand_on};
-use lines::{put_refusal, read_full};
-use paper::{Converted, Refusal, StreamRefusal};
+use crate::handed::{Handed, STDOUT_FILENO, Unwritten};
+use lines::{LONGEST_REFUSAL, Text, read_full};
+use paper::Refusal;
 use text::LONGEST_IMAGE;
 
 mod handed;
@@ -17,36 +19,38 @@ mod handed;
 // blanks and comments.
 const LONGEST_INPUT: usize = 65536;
 
-// What is told of an input stands in the first bytes of the output, and how many they are is answered. An input that is too long is
-// refused 14, before any byte of it is looked at.
-fn answer(input: &[u8], out: &mut [u8]) -> usize
-    requires { length out.old ≡ longest_image }
-    ensures { Stands input.now result out.new }
+// The records of an input stand in the first bytes of the output, and how many they are is answered. An input that is too long is refused
+// 14, before any byte of it is looked at. The output holds the records of any text, so refusal 10 is never told.
+fn records_of(input: &[u8], out: &mut [u8; LONGEST_IMAGE]) -> Result<usize, Refusal>
+    ensures records { IfOk result (λ bytes. Stands input.now bytes out.new) }
+    ensures refused { IfErr result (λ why. Tells input.now (refusal_text (no_of why))) }
 {
     if input.len() > LONGEST_INPUT {
-        return put_refusal(&mut *out, StreamRefusal::Other(Refusal::LongInput));
+        return Err(Refusal::LongInput);
     }
-    let converted = text::text_to_tree(input, &mut *out);
-    match converted {
-        Converted::Bytes(bytes) => bytes,
-        Converted::Refused(why) => put_refusal(&mut *out, StreamRefusal::Other(why)),
-    }
+    text::text_to_tree(input, out)
 }
 
 // All that is told of an input, handed on in one write.
-fn tell(rt: &HostRuntime, input: &[u8], out: &mut [u8]) -> Handed
-    requires { length out.old ≡ longest_image }
-    ensures { HandsOn input.now result }
+fn tell<'a>(rt: &HostRuntime, input: &'a [u8]) -> Result<Handed<'a>, Unwritten>
+    ensures { IfOk result (HandsOn input.now) }
 {
-    let bytes = answer(input, &mut *out);
-    hand_on(rt, STDOUT_FILENO, input, &mut out[..bytes])
+    let handed = Handed::nothing(input);
+    let mut out = [0; LONGEST_IMAGE];
+    match records_of(input, &mut out) {
+        Ok(bytes) => handed.hand_on(rt, STDOUT_FILENO, &out[..bytes]),
+        Err(why) => {
+            let mut line: Text<LONGEST_REFUSAL> = Text::new();
+            line.put_refusal(why.into());
+            handed.hand_on(rt, STDOUT_FILENO, line.as_slice())
+        }
+    }
 }
 
 // One byte more is read than the program takes, to see an input that is too long: `read_full` stops where the buffer is full or the
-// input ends. The output holds the records of any text, so refusal 10 is never told.
+// input ends. A write that failed was told, and the program ends.
 fn main(rt: HostRuntime) {
     let mut input = [0u8; LONGEST_INPUT + 1];
-    let mut out = [0u8; LONGEST_IMAGE];
     let n = read_full(&mut rt.stdin(), &mut input);
-    tell(&rt, &input[..n], &mut out);
+    let _ = tell(&rt, &input[..n]);
 }

@@ -1,23 +1,22 @@
--- `list` tells all of the input: what the five calls make together stands in `Answering`.
-use Rattle.std.proofs.Common.{ℕ, arith, replicate}
-use Rattle.std.proofs.lemmas.List.{length-replicate}
-use Rattle.paper.specs.declared.Record.{Record}
-use Rattle.paper.specs.Records.{blank_entry}
-use Rattle.list.proofs.Answering.{list_tells}
+-- The first lines of a set, or the line of a refusal.
+use Rattle.std.proofs.Common.{List, [], ℕ, ap, ap₂, sym, ◌∙◌}
+use Rattle.paper.specs.Answers.{no_of_stream}
+use Rattle.paper.specs.Refusals.{program}
+use Rattle.lines.specs.Put.{put_fact, put_refusal}
+use Rattle.list.specs.Bounds.{largest_text}
+use Rattle.list.specs.Text.{records_word, rows_word}
+use Rattle.list.proofs.Opening.{facts_told, refusal_told}
 use Rattle.list.proofs.list.Goals as goal
 
-pub rows-requires : goal.rows-requires
-rows-requires c =
-    (list_tells c.args.input.now (replicate 16384 0) (replicate 2000 blank_entry) c.requires.0
-    (length-replicate {A = ℕ} 16384 0) (length-replicate {A = Record} 2000 blank_entry)
-    c.build-built.result c.build-built.new.work c.build-built.new.table c.build-built.ensures (omega arith) (omega arith)
-    c.head_of-head.result c.head_of-head.ensures c.count-counted.result c.count-counted.new.work c.count-counted.ensures (omega arith)
-    c.open_page-s.result c.open_page-s.new.text (omega arith) (omega arith) c.open_page-s.ensures).0
+pub rows-requires-clause-opened : goal.rows-requires-clause-opened
+rows-requires-clause-opened c =
+    facts_told _ c.requires.unhanded c.in-Ok.head c.set_of.new.table c.in-Ok.count c.in-Ok.ensures.set.count
+    (c.put_fact-in-Ok.ensures
+    ∙ ap (put_fact largest_text rows_word c.in-Ok.count)
+    (c.put_fact.ensures ∙ ap₂ (λ (n : ℕ) (text : List ℕ). put_fact largest_text records_word n text) c.from.ensures c.requires.empty))
 
-pub returns : goal.returns
-returns c =
-    (list_tells c.args.input.now (replicate 16384 0) (replicate 2000 blank_entry) c.requires.0
-    (length-replicate {A = ℕ} 16384 0) (length-replicate {A = Record} 2000 blank_entry)
-    c.build-built.result c.build-built.new.work c.build-built.new.table c.build-built.ensures (omega arith) (omega arith)
-    c.head_of-head.result c.head_of-head.ensures c.count-counted.result c.count-counted.new.work c.count-counted.ensures (omega arith)
-    c.open_page-s.result c.open_page-s.new.text (omega arith) (omega arith) c.open_page-s.ensures).1 c.rows.result c.rows.new.text c.rows.ensures
+pub returns-in-Err : goal.returns-in-Err
+returns-in-Err c =
+    refusal_told (record { rt = c.args.page.now.rt; handed = c.args.page.now.handed; text = c.put_refusal.new.self }) c.requires.unhanded
+    (no_of_stream c.in-Err.why) (ap program (sym c.input.ensures) ∙ c.in-Err.ensures.refused)
+    (c.put_refusal.ensures ∙ ap (put_refusal largest_text (no_of_stream c.in-Err.why)) c.requires.empty)

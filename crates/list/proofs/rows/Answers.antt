@@ -1,39 +1,27 @@
--- A turn tells one row more, or finds that a write has failed; where none is left, all is told.
-use Rattle.std.proofs.Common.{arith}
-use Rattle.list.proofs.Telling.{asks, onward, stops}
+-- A turn tells one row more; where none is left, all is told.
+use Rattle.std.proofs.Common.{ℕ, ap, ◌∙◌, arith, take}
+use Rattle.list.specs.Page.{lined, with_room}
+use Rattle.list.proofs.Turning.{ends, may_pass_on, onward, row_written}
 use Rattle.list.proofs.rows.Goals as goal
 
-pub put_line-t-requires : goal.put_line-t-requires
-put_line-t-requires c =
-    let a = c.args in
-    let l = c.loop-t in
-    let told = c.row-written in
-    asks a.head a.table.now a.s a.work.now a.text.now a.input.now c.requires (record { page = l.t; work = l.work; row = l.row; text = l.text })
-    l.invariant c.loop-t-test.true told.result told.new.work told.new.out told.ensures
+pub unwrap-requires : goal.unwrap-requires
+unwrap-requires c =
+    let l = c.loop-number in
+    row_written _ _ _ _ _ c.requires.set l.number c.loop-number-test.true l.work l.row (omega arith) (omega arith) c.row.result c.row.new.work
+    c.row.new.out c.row.ensures
 
-pub loop-t-smaller : goal.loop-t-smaller
-loop-t-smaller c =
-    let a = c.args in
-    let l = c.loop-t in
-    let told = c.row-written in
-    let put = c.put_line-t in
-    (onward a.head a.table.now a.s a.work.now a.text.now a.input.now c.requires (record { page = l.t; work = l.work; row = l.row; text = l.text })
-    l.invariant c.loop-t-test.true told.result told.new.work told.new.out told.ensures put.result put.new.text (omega arith) (omega arith) (omega arith)
-    put.ensures).1
+pub put_line-requires-clause-waits : goal.put_line-requires-clause-waits
+put_line-requires-clause-waits c =
+    let l = c.loop-number in
+    may_pass_on _ _ _ _ _ c.requires.set l.number c.loop-number-test.true l.work l.row (omega arith) (omega arith) c.row.result c.row.new.work
+    c.row.new.out c.row.ensures l.page l.invariant
 
-pub loop-t-preserved : goal.loop-t-preserved
-loop-t-preserved c =
-    let a = c.args in
-    let l = c.loop-t in
-    let told = c.row-written in
-    let put = c.put_line-t in
-    (onward a.head a.table.now a.s a.work.now a.text.now a.input.now c.requires (record { page = l.t; work = l.work; row = l.row; text = l.text })
-    l.invariant c.loop-t-test.true told.result told.new.work told.new.out told.ensures put.result put.new.text (omega arith) (omega arith) (omega arith)
-    put.ensures).0
+pub loop-number-preserved : goal.loop-number-preserved
+loop-number-preserved c =
+    let l = c.loop-number in
+    onward _ _ _ _ _ c.requires.set l.number c.loop-number-test.true l.work l.row (omega arith) (omega arith) c.row.result c.row.new.work
+    c.row.new.out c.row.ensures l.page l.invariant c.put_line.new.self
+    (c.in_ok-put_line.ensures ∙ ap (λ (k : ℕ). lined (with_room l.page) (take k c.row.new.out)) c.from.ensures)
 
 pub returns : goal.returns
-returns c =
-    let a = c.args in
-    let l = c.loop-t in
-    stops a.head a.table.now a.s a.work.now a.text.now a.input.now c.requires (record { page = l.t; work = l.work; row = l.row; text = l.text })
-    l.invariant c.loop-t-test.false
+returns c = ends _ _ _ _ _ c.requires.set c.loop-number.number c.loop-number.page (omega arith) c.loop-number.invariant

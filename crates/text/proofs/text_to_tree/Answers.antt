@@ -1,15 +1,6 @@
--- What the pass leaves is the text's image, or says that it has none.
-use Rattle.text.proofs.TreeReplies.{image_told, output_short, text_refused}
+-- What is told of the text's image is what the request says of the text.
+use Rattle.text.proofs.TreeReplies.{makes_tree}
 use Rattle.text.proofs.text_to_tree.Goals as goal
 
-pub returns-then-not-is_whole : goal.returns-then-not-is_whole
-returns-then-not-is_whole c = text_refused _ _ _ _ c.read_text-s.ensures _ c.if-not-is_whole.ensures
-
-pub returns-then-out-bytes : goal.returns-then-out-bytes
-returns-then-out-bytes c =
-    output_short _ _ _ _ c.read_text-s.ensures c.if-not-is_whole.ensures _ _ c.end_siblings-ended.ensures _ c.if-out-bytes.true
-
 pub returns : goal.returns
-returns c =
-    image_told _ _ _ _ c.read_text-s.ensures c.if-not-is_whole.ensures _ _ c.end_siblings-ended.ensures _ c.if-out-bytes.false _
-    c.copy_to_start.ensures
+returns c = makes_tree c.args.text.now c.args.out.now _ _ c.read_text.ensures

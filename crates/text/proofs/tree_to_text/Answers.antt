@@ -1,16 +1,15 @@
--- The bytes are no image, their text is longer than the output, or it is told.
-use Rattle.std.proofs.Common.{sym}
-use Rattle.text.proofs.TextReplies.{image_refused, short_refused, text_told}
+-- The bytes are no image, or their text is made, and copied if there is room.
+use Rattle.std.proofs.Common.{◌∙◌, refl, sym}
+use Rattle.paper.specs.CanonicalText.{text_of}
+use Rattle.paper.specs.Conversions.{Images}
+use Rattle.text.proofs.Copying.{converted, unconverted}
+use Rattle.text.proofs.TextReplies.{no_image}
 use Rattle.text.proofs.tree_to_text.Goals as goal
 
 pub returns-then-not-is_image : goal.returns-then-not-is_image
-returns-then-not-is_image c = image_refused c.args.tree.now c.args.out.now (sym c.if-not-is_image.ensures)
-
-pub returns-then-out-text_length : goal.returns-then-out-text_length
-returns-then-out-text_length c =
-    short_refused _ _ _ c.write_text-start.ensures c.args.out.now c.if-out-text_length.true
+returns-then-not-is_image c =
+    unconverted (Images c.args.tree.now) text_of (no_image c.args.tree.now (sym c.if-not-is_image.ensures)) c.args.out.now _ _ refl
 
 pub returns : goal.returns
-returns c =
-    text_told c.args.tree.now c.write_text-start.result c.write_text-start.new.text c.write_text-start.ensures c.args.out.now
-    c.if-out-text_length.false _ c.copy_to_start.ensures
+returns c = let made = c.write_text-text.ensures in
+    converted (Images c.args.tree.now) text_of made.tree made.images _ c.args.out.now (c.as_slice.ensures ∙ made.stands) _ _ c.copy_to_start.ensures

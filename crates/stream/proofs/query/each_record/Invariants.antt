@@ -1,12 +1,12 @@
--- The records so far have passed and make the state, and the table has their keys.
+-- The records so far have passed, so many of them are rules, and the table has their keys.
 use Rattle.std.proofs.Common.{◌-◌, length}
 use Rattle.stream.specs.Keys.{TableOf}
 use Rattle.stream.specs.Positions.{records_between}
 use Rattle.stream.proofs.QueryReading.{QuerySoFar}
 use Rattle.stream.proofs.query.each_record.Given as goal
 
-abbrev pub invariant-loop-state : goal.invariant-loop-state
-invariant-loop-state l = QuerySoFar l.input l.facts l.state × TableOf l.facts (records_between l.input l.facts.rules l.state.at) l.said
+abbrev pub invariant-loop-at : goal.invariant-loop-at
+invariant-loop-at l = QuerySoFar l.input l.head.facts l.at l.rules × TableOf l.head.facts (records_between l.input l.head.facts.rules l.at) l.said
 
-abbrev pub decreases-loop-state : goal.decreases-loop-state
-decreases-loop-state l = length l.input - l.state.at
+abbrev pub decreases-loop-at : goal.decreases-loop-at
+decreases-loop-at l = length l.input - l.at

@@ -1,33 +1,45 @@
 -- Each turn passes one more tree record, or is refused as the tree is; where the loop ends, so does the tree.
-use Rattle.std.proofs.Common.{◌<◌, ◌∙◌, sym, arith}
-use Rattle.std.proofs.lemmas.Result.{err_from_is_err_and}
-use Rattle.stream.proofs.TreeReading.{TreeSoFar, at_record, not_one, tree_goes_on, tree_read, tree_refused, tree_starts}
+use Rattle.std.proofs.Common.{true, ◌≡◌, sym, arith}
+use Rattle.stream.specs.OneRecord.{is_tree_at}
+use Rattle.stream.proofs.TreeReading.{branch_goes_on, leaf_goes_on, not_one, now_nodes, refused_branch, refused_cut, refused_label, refused_many, tree_read}
 use Rattle.stream.proofs.tree.read_tree.Goals as goal
+use Rattle.stream.proofs.tree.read_tree.Goals.{then-input-next-via-then-input-next, then-input-next-via-else-input-next+then-input-at-gt-HIGHEST_LABEL, then-input-at-eq-LEAF, else-input-at-eq-LEAF+else-unjoined-lt2}
 
--- where a turn goes on, the record has passed, and the next one stands behind it
-passes : (c : goal.In_ok-state) → TreeSoFar c.args.input.now c.in_ok-state.state × (c.loop-state.state.at < c.in_ok-state.state.at)
-passes c = tree_goes_on _ _ c.loop-state.invariant (sym c.is_tree_record.ensures ∙ c.loop-state-test.true) _ c.in_ok-state.ensures
+pub returns-then-nodes-ge-MOST_NODES : goal.returns-then-nodes-ge-MOST_NODES
+returns-then-nodes-ge-MOST_NODES c = refused_many _ _ _ _ _ c.loop-at.invariant (sym c.loop-at-test.ensures) c.if-nodes-ge-MOST_NODES.true
 
-pub loop-state-init : goal.loop-state-init
-loop-state-init c = tree_starts _
+pub returns-then-input-next : goal.returns-then-input-next
+returns-then-input-next c = elim c.then-input-next.branch [
+  | then-input-next-via-then-input-next w ↦
+      refused_cut _ _ _ _ _ c.loop-at.invariant (sym c.loop-at-test.ensures) c.if-nodes-ge-MOST_NODES.false
+      (omega (arith, c.body_length.ensures, w.if-input-next.true))
+  | then-input-next-via-else-input-next+then-input-at-gt-HIGHEST_LABEL w ↦
+      refused_label _ _ _ _ _ c.loop-at.invariant (sym c.loop-at-test.ensures) c.if-nodes-ge-MOST_NODES.false
+      (omega (arith, c.body_length.ensures, w.if-input-next.false)) w.if-input-at-gt-HIGHEST_LABEL.true
+]
 
-pub tree_record-requires : goal.tree_record-requires
-tree_record-requires c = at_record _ _ c.loop-state.invariant (sym c.is_tree_record.ensures ∙ c.loop-state-test.true)
+pub overflow_add-unjoined : goal.overflow_add-unjoined
+overflow_add-unjoined c = omega (arith, now_nodes _ _ _ _ _ c.loop-at.invariant)
 
-pub loop-state-smaller : goal.loop-state-smaller
-loop-state-smaller c = let h = passes c in omega (arith, h.1, h.0.before.inside)
+pub returns-then-unjoined-lt2 : goal.returns-then-unjoined-lt2
+returns-then-unjoined-lt2 c =
+    refused_branch _ _ _ _ _ c.loop-at.invariant (sym c.loop-at-test.ensures) c.if-nodes-ge-MOST_NODES.false
+    (omega (arith, c.body_length.ensures)) c.if-input-at-gt-HIGHEST_LABEL.false c.if-input-at-eq-LEAF.false c.if-unjoined-lt2.true
 
-pub loop-state-preserved : goal.loop-state-preserved
-loop-state-preserved c = (passes c).0
+pub loop-at-preserved : goal.loop-at-preserved
+loop-at-preserved c =
+    let here : is_tree_at c.args.input.now c.loop-at.at ≡ true = sym c.loop-at-test.ensures in
+    rw c.body_length.ensures (elim c.if-input-at-eq-LEAF.branch [
+      | then-input-at-eq-LEAF w ↦
+          rw (w.unjoined-is, w.most-is) (leaf_goes_on _ _ _ _ _ c.loop-at.invariant here c.if-nodes-ge-MOST_NODES.false
+          (omega (arith, c.body_length.ensures)) c.if-input-at-gt-HIGHEST_LABEL.false w.if-input-at-eq-LEAF.true _ (grind arith))
+      | else-input-at-eq-LEAF+else-unjoined-lt2 w ↦
+          rw (w.unjoined-is, w.most-is) (branch_goes_on _ _ _ _ _ c.loop-at.invariant here c.if-nodes-ge-MOST_NODES.false
+          (omega (arith, c.body_length.ensures)) c.if-input-at-gt-HIGHEST_LABEL.false w.if-input-at-eq-LEAF.false w.if-unjoined-lt2.false)
+    ])
 
-pub returns-in_err-state : goal.returns-in_err-state
-returns-in_err-state c =
-    let p = err_from_is_err_and c.from_residual.result c.from_residual.ensures.1 in
-    rw (p.1, p.2)
-    (tree_refused _ _ c.loop-state.invariant (sym c.is_tree_record.ensures ∙ c.loop-state-test.true) _ c.in_err-state.ensures)
-
-pub returns-then-state-ne1 : goal.returns-then-state-ne1
-returns-then-state-ne1 c = not_one _ _ c.loop-state.invariant (sym c.is_tree_record.ensures ∙ c.loop-state-test.false) c.if-state-ne1.true
+pub returns-then-unjoined-ne1 : goal.returns-then-unjoined-ne1
+returns-then-unjoined-ne1 c = not_one _ _ _ _ _ c.loop-at.invariant (sym c.loop-at-test.ensures) c.if-unjoined-ne1.true
 
 pub returns : goal.returns
-returns c = tree_read _ _ c.loop-state.invariant (sym c.is_tree_record.ensures ∙ c.loop-state-test.false) c.if-state-ne1.false
+returns c = tree_read _ _ _ _ _ c.loop-at.invariant (sym c.loop-at-test.ensures) c.if-unjoined-ne1.false

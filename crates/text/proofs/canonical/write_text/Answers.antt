@@ -1,26 +1,25 @@
--- The root waits first; a record that is left is a pad or a branch, and has room.
-use Rattle.std.proofs.Common.{arith}
-use Rattle.text.proofs.WritingTexts.{accepted_images, can_meet, can_miss, met_more, missing_more, record_left, starts_written}
+-- Each record has room for what it writes.
+use Rattle.std.proofs.Common.{subst, sym}
+use Rattle.text.proofs.WritingTexts.{SoFar, can_meet, can_miss, met_more, missing_more, starts_written}
 use Rattle.text.proofs.canonical.write_text.Goals as goal
 
-pub loop-writing-init : goal.loop-writing-init
-loop-writing-init c =
-    let image = accepted_images c.args.tree.now c.requires.0 in
-    starts_written c.args.tree.now c.args.text.now image.0 image.1 c.requires.1
+pub loop-rest-init : goal.loop-rest-init
+loop-rest-init c =
+    subst (SoFar c.args.tree.now c.args.tree.now) (λ i. record { waiting = sym c.new.ensures i; text = sym c.new-2.ensures i })
+    (starts_written c.args.tree.now c.requires)
 
-pub missing-writing-requires : goal.missing-writing-requires
-missing-writing-requires c = can_miss c.loop-writing.invariant c.loop-writing-test.true c.if-tree-at-eq-LEAF.true
+pub miss-requires : goal.miss-requires
+miss-requires c = can_miss c.loop-rest.writing c.loop-rest.invariant c.in-len2-up.len_at_least c.if-kind-eq-LEAF.true
 
-pub loop-writing-preserved-then-tree-at-eq-LEAF : goal.loop-writing-preserved-then-tree-at-eq-LEAF
-loop-writing-preserved-then-tree-at-eq-LEAF c =
-    missing_more c.loop-writing.invariant c.loop-writing-test.true c.if-tree-at-eq-LEAF.true c.missing-writing.ensures
+pub meet-requires-clause-fits : goal.meet-requires-clause-fits
+meet-requires-clause-fits c = can_meet c.loop-rest.writing c.loop-rest.invariant c.in-len2-up.len_at_least c.if-kind-eq-LEAF.false
 
-pub met-writing-requires : goal.met-writing-requires
-met-writing-requires c = can_meet c.loop-writing.invariant c.loop-writing-test.true c.if-tree-at-eq-LEAF.false
+pub loop-rest-preserved-then-kind-eq-LEAF : goal.loop-rest-preserved-then-kind-eq-LEAF
+loop-rest-preserved-then-kind-eq-LEAF c =
+    subst (SoFar c.args.tree.now _) (sym c.miss.ensures)
+    (missing_more c.loop-rest.writing c.loop-rest.invariant c.in-len2-up.len_at_least c.if-kind-eq-LEAF.true)
 
-pub loop-writing-smaller : goal.loop-writing-smaller
-loop-writing-smaller c = omega (arith, record_left c.loop-writing.invariant c.loop-writing-test.true)
-
-pub loop-writing-preserved : goal.loop-writing-preserved
-loop-writing-preserved c =
-    met_more c.loop-writing.invariant c.loop-writing-test.true c.if-tree-at-eq-LEAF.false c.met-writing.ensures
+pub loop-rest-preserved : goal.loop-rest-preserved
+loop-rest-preserved c =
+    subst (SoFar c.args.tree.now _) (sym c.meet.ensures)
+    (met_more c.loop-rest.writing c.loop-rest.invariant c.in-len2-up.len_at_least c.if-kind-eq-LEAF.false)

@@ -1,25 +1,19 @@
--- A turn goes over a byte, with the comment that it begins; the loop ends with the text, or with a refusal.
-use Rattle.std.proofs.Common.{◌≡◌, ◌≤◌, length}
-use Rattle.std.proofs.Math.Logic.{◌⊎◌, inl, inr}
-use Rattle.text.proofs.WholeText.{byte_read, comment_read, not_over, text_ends}
+-- A fault is refused, whatever follows.
+use Rattle.std.proofs.Common.{◌+◌, ◌∙◌, ap, drop, sym}
+use Rattle.std.proofs.lemmas.List.{drop_more}
+use Rattle.std.proofs.lemmas.Result.{err_from_is_err_and}
+use Rattle.text.specs.Pass.{image_behind}
+use Rattle.text.specs.Reading.{state_in}
+use Rattle.text.specs.Told.{told}
+use Rattle.text.proofs.BytePass.{refused_from}
 use Rattle.text.proofs.pass.read_text.Goals as goal
-use Rattle.text.proofs.pass.read_text.Goals.{else-loop-at-test, then-loop-at-test+else-s-ne-REFUSED}
 
-pub loop-at-preserved-then-byte-eq33 : goal.loop-at-preserved-then-byte-eq33
-loop-at-preserved-then-byte-eq33 c = let so_far = c.loop-at.invariant in
-    comment_read _ _ _ _ _ so_far c.loop-at-test.true (not_over _ _ _ _ _ so_far c.if-s-ne-REFUSED.true) _ _ _ c.read_byte-s.ensures
-    c.if-byte-eq33.true _ c.comment_end-at.ensures
-
-pub loop-at-preserved : goal.loop-at-preserved
-loop-at-preserved c = let so_far = c.loop-at.invariant in
-    byte_read _ _ _ _ _ so_far c.loop-at-test.true (not_over _ _ _ _ _ so_far c.if-s-ne-REFUSED.true) _ _ _ c.read_byte-s.ensures
-    c.if-byte-eq33.false
-
-pub returns : goal.returns
-returns c =
-    let over : (length c.args.text.now ≤ c.loop-at.at) ⊎ (c.loop-at.s.mode ≡ 65) =
-    elim c.loop-at-test.branch [
-      | then-loop-at-test+else-s-ne-REFUSED w ↦ inr w.if-s-ne-REFUSED.false
-      | else-loop-at-test w ↦ inl w.loop-at-test.false
-    ] in
-    text_ends _ _ _ _ _ c.loop-at.invariant over _ _ _ c.end_number.ensures
+pub returns-in_err-mode : goal.returns-in_err-mode
+returns-in_err-mode c =
+    let text = c.args.text.now in
+    let i = c.loop-byte.byte-index in
+    let refusal = err_from_is_err_and c.from_residual.result c.from_residual.ensures.1 in
+    rw (refusal.1, refusal.2) (ap (λ image. told image c.args.out.now) (sym (refused_from (drop (i + 1) text))
+    ∙ ap (λ s. image_behind s (drop (i + 1) text)) c.in_err-mode.ensures
+    ∙ ap (image_behind (state_in c.loop-byte.mode c.loop-byte.kept)) (sym (drop_more text i 0 c.loop-byte-test.true))
+    ∙ c.loop-byte.invariant))

@@ -1,10 +1,8 @@
--- What is held says of the bytes to come what the whole text does. A turn goes over one byte, or over a comment with its mark.
-use Rattle.std.proofs.Common.{◌-◌, length}
-use Rattle.text.proofs.WholeText.{SoFar}
+-- The bytes to come make of what is held what the whole text makes.
+use Rattle.std.proofs.Common.{◌≡◌, drop}
+use Rattle.text.specs.Pass.{image_behind, image_of_text}
+use Rattle.text.specs.Reading.{state_in}
 use Rattle.text.proofs.pass.read_text.Given as goal
 
-abbrev pub invariant-loop-at : goal.invariant-loop-at
-invariant-loop-at l = SoFar l.text l.s l.labels l.image l.at
-
-abbrev pub decreases-loop-at : goal.decreases-loop-at
-decreases-loop-at l = length l.text - l.at
+abbrev pub invariant-loop-byte : goal.invariant-loop-byte
+invariant-loop-byte l = image_behind (state_in l.mode l.kept) (drop l.byte-index l.text) ≡ image_of_text l.text

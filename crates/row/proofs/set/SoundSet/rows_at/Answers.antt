@@ -1,0 +1,10 @@
+-- `rows_at` reads the weight of a used record (`SoundSets`).
+use Rattle.std.proofs.Common.{◌∙◌, arith}
+use Rattle.row.proofs.SoundSets.{rows_are, work_long}
+use Rattle.row.proofs.set.SoundSet.rows_at.Goals as goal
+
+pub bounds-self-at : goal.bounds-self-at
+bounds-self-at c = omega (arith, work_long c.args.self.now)
+
+pub returns : goal.returns
+returns c = c.rows_in.ensures ∙ rows_are c.args.self.now c.args.at c.requires

@@ -1,6 +1,0 @@
--- A new table has no key.
-use Rattle.stream.proofs.KeyTable.{new_table}
-use Rattle.stream.proofs.query.with_small_table.Goals as goal
-
-pub each_record-requires-clause-table_of : goal.each_record-requires-clause-table_of
-each_record-requires-clause-table_of c = new_table c.args.facts 128 c.requires.facts_bound

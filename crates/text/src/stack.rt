@@ -1,0 +1,62 @@
+// A stack in fixed memory: the labels and the nodes that wait, and a text that is written from its end to its start.
+ghost use Rattle.std.specs.Prelude.{◌≡◌, ◌<◌, ◌≤◌, [], ◌∷◌, length};
+ghost use Rattle.text.specs.Stack.{top_of, below_top};
+
+use std::marker::Model;
+
+// At most `N` items. They stand at the end of the array, the last one put before the others.
+#[derive(Drop)]
+pub(crate) struct Stack<T, const N: usize> {
+    items: [T; N],
+    first: usize,
+}
+
+impl<T, const N: usize> Model for Stack<T, N> {
+    ghost use Rattle.std.specs.Prelude.{List, ◌≤◌, drop};
+
+    ghost Value = { List T };
+
+    ghost view = { λ s. drop s.first s.items };
+
+    ghost invariant = { λ s. s.first ≤ N };
+}
+
+impl<T: Copy, const N: usize> Stack<T, N> {
+    // No item yet. The array is filled with a blank, which nobody sees.
+    pub(crate) fn new(blank: T) -> Self
+        ensures { result ≡ [] }
+    {
+        Stack {
+            items: [blank; N],
+            first: N,
+        }
+    }
+
+    pub(crate) fn push(&mut self, item: T)
+        requires { length self.old < N }
+        ensures { self.new ≡ item ∷ self.old }
+    {
+        self.first -= 1;
+        self.items[self.first] = item;
+    }
+
+    pub(crate) fn pop(&mut self) -> Option<T>
+        ensures top { result ≡ top_of self.old }
+        ensures rest { self.new ≡ below_top self.old }
+        ensures few { length self.old ≤ N }
+    {
+        if self.first == N {
+            return None;
+        }
+        let item = self.items[self.first];
+        self.first += 1;
+        Some(item)
+    }
+
+    pub(crate) fn as_slice(&self) -> &[T]
+        ensures { result.now ≡ self.now }
+    {
+        let items = &self.items[..];
+        &items[self.first..]
+    }
+}
