@@ -5,7 +5,7 @@ use mathlib.Core.List.{List, [], ◌∷◌}
 use mathlib.Core.Path.{◌∙◌, ◌≡◌, ap, refl, sym}
 use Prim.Native.Nat.{◌%◌, ◌*◌, ◌+◌, ◌<◌, ◌^◌, ◌≤◌, ℕ}
 use native.Mathlib.Omega.{arith}
-use borrow.Author.Tests.{eq-eqb, ne_eqb}
+use borrow.Author.Tests.{eq-eqb}
 use lib.Bits.{bit_or}
 use lib.Dec.{eqb}
 use lib.ListN.{drop, get_or, length}
@@ -27,22 +27,12 @@ bit_put j i a = sym (shifted (bit_or a (2 ^ j)) i) ∙ digit_put a j i ∙ ap (�
 
 -- ---- one record
 module _ (input : List ℕ) (at old : ℕ) where
-  -- of another kind
-  pub no_state : (get_or input at 0 ≡ 19 → ⊥) → AddsState input at old old
-  no_state n q h = rw (ne_eqb (get_or input at 0) 19 n) (sym (or-false (has_place old q)))
-
   module _ (kind : get_or input at 0 ≡ 19) where
     -- an accepting state has its own number and no other
     own_state : (q : ℕ) → has (accepting_of (record_at input at ∷ [])) q ≡ eqb (get_or input (at + 1) 0) q
     own_state q =
         rw (eq-eqb (get_or input at 0) 19 kind, number_byte input at 19 0 (at + 1) kind (omega arith) (omega arith))
         (or-false (eqb (get_or input (at + 1) 0) q))
-
-    -- one that no query has
-    pub high_state : 16 ≤ get_or input (at + 1) 0 → AddsState input at old old
-    high_state high q h =
-        sym (or-false (has_place old q))
-        ∙ ap (λ c. has_place old q || c) (sym (own_state q ∙ ne_eqb (get_or input (at + 1) 0) q (λ e. omega arith)))
 
     -- any other: its bit is 1 shifted, of which nothing is lost
     pub state_put : get_or input (at + 1) 0 < 16 → AddsState input at old (bit_or old (1 * 2 ^ get_or input (at + 1) 0 % 65536))

@@ -40,6 +40,10 @@ module _ (f : QueryFacts) (r : StreamRecord) (fitting : fits f r ≡ true) where
       later n =
           ⊎_elim (λ e. branch (eqb-true r.kind 18 e)) (λ e. state (last n (eqb-false r.kind 18 e))) (which (eqb r.kind 18))
 
+  -- what is no accepting state is a rule
+  pub a_rule : (r.kind ≡ 19 → ⊥) → is_rule_kind r.kind ≡ true
+  a_rule other = by_kind (ap is_rule_kind) (ap is_rule_kind) (λ e. absurd (other e))
+
   -- a rule
   module _ (rule : is_rule_kind r.kind ≡ true) where
     tests : leb (number r 0) 63 && (ltb (number r 1) (2 ^ f.arity) && all_below f.states (drop 2 r.body)) ≡ true

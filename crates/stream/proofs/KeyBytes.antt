@@ -2,7 +2,7 @@
 use mathlib.Core.Bool.{true}
 use mathlib.Core.List.{List}
 use mathlib.Core.Logic.{◌⊎◌, inl, inr, ⊎_elim}
-use mathlib.Core.Path.{◌≡◌, ap, refl}
+use mathlib.Core.Path.{◌≡◌, ap}
 use Prim.Native.Nat.{◌*◌, ◌+◌, ◌<◌, ◌≤◌, ℕ}
 use native.Mathlib.Omega.{arith}
 use borrow.Author.Tests.{eqb-true}
@@ -24,23 +24,13 @@ module _ (input : List ℕ) (at : ℕ) (inside : after input at ≤ length input
         ⊎_elim (λ e. inl (eqb-true (get_or input at 0) 17 e)) (λ e. inr (eqb-true (get_or input at 0) 18 e))
         (or_cases (eqb (get_or input at 0) 17) (eqb (get_or input at 0) 18) rule)
 
-    pub rule_long : at + 4 ≤ length input
-    rule_long = ⊎_elim (λ e. omega (arith, inside, ap body_length e)) (λ e. omega (arith, inside, ap body_length e)) kinds
-
     pub branch_long : (get_or input at 0 ≡ 17 → ⊥) → (get_or input at 0 ≡ 18) × (at + 6 ≤ length input)
     branch_long n = ⊎_elim (λ e. absurd (n e)) (λ e. (e, omega (arith, inside, ap body_length e))) kinds
-
-  pub state_long : get_or input at 0 ≡ 19 → at + 2 ≤ length input
-  state_long e = omega (arith, inside, ap body_length e)
 
 -- ---- the key
 module _ (input : List ℕ) (f : QueryFacts) (at : ℕ) where
   abbrev r : StreamRecord
   r = record_at input at
-
-  -- of an accepting state
-  pub state_bytes : get_or input at 0 ≡ 19 → get_or input (at + 1) 0 ≡ key_of f r
-  state_bytes e = rw (ap (λ n. eqb n 19) e, number_byte input at 19 0 (at + 1) e (omega arith) (omega arith)) refl
 
   -- of a rule: numbers that are its label and its flag, and those of the query's flags and ends
   module _ (label flag flags ends : ℕ) (a : label ≡ get_or input (at + 1) 0) (b : flag ≡ get_or input (at + 2) 0) (x : flags ≡ flags_of f)
@@ -49,9 +39,6 @@ module _ (input : List ℕ) (f : QueryFacts) (at : ℕ) where
         → (label * flags + flag) * ends ≡ (number r 0 * flags_of f + number r 1) * ends_of f
     label_and_flag n e h =
         cc (number_byte input at n 0 (at + 1) e (omega arith) (omega arith), number_byte input at n 1 (at + 2) e (omega arith) (omega arith))
-
-    pub leaf_bytes : get_or input at 0 ≡ 17 → 16 + (label * flags + flag) * ends ≡ key_of f r
-    leaf_bytes e = rw (ap (λ n. eqb n 17) e, ap (λ n. eqb n 19) e) (omega (arith, label_and_flag 17 e (omega arith)))
 
     pub branch_bytes : (left right : ℕ) → left ≡ get_or input (at + 3) 0 → right ≡ get_or input (at + 4) 0 → get_or input at 0 ≡ 18
         → 16 + (label * flags + flag) * ends + 1 + left * f.states + right ≡ key_of f r

@@ -6,12 +6,10 @@ pub mod TreeSteps
 pub mod TreeReading
 pub mod RuleSearch
 pub mod Fitting
-pub mod InRange
 pub mod KeyTable
 pub mod RecordKeys
 pub mod KeyBytes
 pub mod QuerySteps
-pub mod QueryHead
 pub mod QueryReading
 pub mod AfterTree
 pub mod Room

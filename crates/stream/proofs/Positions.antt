@@ -4,13 +4,13 @@ use mathlib.Core.Bool.{true, false}
 use mathlib.Core.List.Memᴰ
 use mathlib.Core.List.{List, [], ◌++◌, ◌∷◌, append_assoc, append-nil}
 use mathlib.Core.Logic.{⊎_elim}
-use mathlib.Core.Path.{◌∙◌, ◌≡◌, ap, refl, subst, sym}
+use mathlib.Core.Path.{◌∙◌, ◌≡◌, ap, refl, sym}
 use Prim.Native.Nat.{◌+◌, ◌-◌, ◌<◌, ◌≤◌, suc, zero, ℕ}
 use native.Mathlib.Numerals.{add-one}
 use native.Mathlib.Omega.{arith}
 use borrow.Author.Tests.{eq-eqb, eqb-true, ne_eqb}
 use lib.ListN.{drop, drop_of_length-le, get_or, length, length-append, length-drop, length-take, take, take-append-drop}
-use lib.Seq.{drop-append-le, drop-cons, drop_at, drop-drop, get_or-drop, get_or-take, length-slice, length-take-le, slice_empty, take_at}
+use lib.Seq.{drop-append-le, drop-cons, drop_at, drop-drop, get_or-drop, get_or-take, length-slice, length-take-le, take_at}
 use Rattle.paper.specs.Lists.{◌∈◌}
 use Rattle.paper.specs.Stream.{StreamRecord, behind, body_length, number, records_of, records_within, whole}
 use Rattle.laws.specs.StreamCauses.{Begins, written}
@@ -144,15 +144,6 @@ module _ (input : List ℕ) (from to : ℕ) where
   -- so the next one stands where they end
   pub behind_between : WholeBetween input from to → behind from (records_between input from to) ≡ to
   behind_between h = behind_written from (records_between input from to) ∙ bytes_between h
-
--- none at first
-pub whole_none : (input : List ℕ) (from : ℕ) → from ≤ length input → WholeBetween input from from
-whole_none input from h = record {
-  ordered = omega arith;
-  inside = h;
-  begins =
-      subst (λ bytes. Begins (drop from input) (records_of bytes) (drop from input)) (sym (slice_empty from input)) (place_here (drop from input));
-}
 
 -- ---- one more whole record
 module _ (input : List ℕ) (from at : ℕ) (before : WholeBetween input from at) (h : after input at ≤ length input) where

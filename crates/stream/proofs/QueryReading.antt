@@ -9,7 +9,6 @@ use native.Mathlib.Omega.{arith}
 use borrow.Author.Tests.{eqb-true, ltb-false, ltb-true}
 use lib.Dec.{ltb}
 use lib.ListN.{drop, get_or, length, length-append}
-use lib.Seq.{slice_empty}
 use Rattle.paper.specs.Query.{accepting_of, query_of, rules_of}
 use Rattle.paper.specs.Refusals.{No, StreamTest, Test, answer, at_each, head_tests, later_tests, query_end_tests, query_part, query_tests, refused, tests_at, unless}
 use Rattle.paper.specs.Stream.{StreamRecord, behind, body_length, number, records_of}
@@ -21,7 +20,7 @@ use Rattle.stream.specs.Positions.{WholeBetween, after, record_at, records_betwe
 use Rattle.stream.specs.Reading.{QueryFacts, query_facts, query_reply}
 use Rattle.stream.proofs.EachRecord.{first_refused, passes_more}
 use Rattle.stream.proofs.QuerySteps.{step_tests}
-use Rattle.stream.proofs.Positions.{behind_between, between_more, records_between_lem, records_here, records_none, whole_inside, whole_more, whole_none}
+use Rattle.stream.proofs.Positions.{behind_between, between_more, records_between_lem, records_here, records_none, whole_inside, whole_more}
 
 -- the tests of one record behind the head
 abbrev tests_behind : QueryFacts → List StreamRecord → StreamRecord → List StreamTest
@@ -32,17 +31,6 @@ pub record QuerySoFar (input : List ℕ) (f : QueryFacts) (at rules : ℕ) : Typ
   pub before : WholeBetween input f.rules at
   pub passed : Passes (at_each (tests_behind f) f.rules [] (records_between input f.rules at))
   pub rules_are : rules ≡ length (rules_of (records_between input f.rules at))
-
--- right behind the head there is none
-pub no_records : (input : List ℕ) (f : QueryFacts) → records_between input f.rules f.rules ≡ []
-no_records input f = ap records_of (slice_empty f.rules input)
-
-pub query_starts : (input : List ℕ) (f : QueryFacts) → f.rules ≤ length input → QuerySoFar input f f.rules 0
-query_starts input f h = record {
-  before = whole_none input f.rules h;
-  passed = subst (λ records. Passes (at_each (tests_behind f) f.rules [] records)) (sym (no_records input f)) tt;
-  rules_are = ap (λ records. length (rules_of records)) (sym (no_records input f));
-}
 
 module _ (input : List ℕ) (f : QueryFacts) (at rules : ℕ) (k : QuerySoFar input f at rules) where
   abbrev before : List StreamRecord

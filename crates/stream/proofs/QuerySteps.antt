@@ -20,7 +20,7 @@ use Rattle.stream.specs.Keys.{FittingAt, SaysKey, TableOf, has_key, key_of}
 use Rattle.stream.specs.OneRecord.{fits, query_with, whole_in_range}
 use Rattle.stream.specs.Positions.{WholeBetween, after, record_at, records_between}
 use Rattle.stream.specs.Reading.{QueryFacts}
-use Rattle.stream.proofs.InRange.{rule_kind}
+use Rattle.stream.proofs.Fitting.{a_rule}
 use Rattle.stream.proofs.Positions.{between_more, whole_inside}
 use Rattle.stream.proofs.RecordKeys.{key_below, new_key}
 
@@ -128,7 +128,7 @@ module _ (input : List ℕ) (f : QueryFacts) (at : ℕ) (said : List ℕ) (k : A
 
   -- with it there is one more rule, or as many as before; and there is room for it
   pub rules_with_it : (rules : ℕ) → (get_or input at 0 ≡ 19 → ⊥) → rules + 1 ≡ rules + length (rules_of (new ∷ []))
-  rules_with_it rules other = rw (rule_kind input f at k.record_here.fitting other) refl
+  rules_with_it rules other = rw (a_rule f new k.record_here.fitting other) refl
 
   pub rules_as_before : (rules : ℕ) → get_or input at 0 ≡ 19 → rules ≡ rules + length (rules_of (new ∷ []))
   rules_as_before rules e = rw (ap is_rule_kind e) (omega arith)

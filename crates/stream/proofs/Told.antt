@@ -10,14 +10,13 @@ use native.Mathlib.Omega.{arith}
 use borrow.Author.Tests.{eqb-true, le-ltb, lt-ltb, ltb-false, ltb-true}
 use lib.Dec.{eqb, ltb}
 use lib.ListN.{drop, get_or, length, length-append, length-drop}
-use Rattle.std.specs.Prelude.{None, Option, Some}
 use Rattle.paper.specs.Lists.{◌∈◌}
 use Rattle.paper.specs.Query.{is_rule_kind}
 use Rattle.paper.specs.Stream.{StreamRecord, body_length, number, records_of, records_within}
 use Rattle.laws.specs.StreamCauses.{RuleKind}
 use Rattle.laws.proofs.Lists.{both_true, here, which}
 use Rattle.stream.specs.Positions.{NextRule, after, is_rule_for, record_at}
-use Rattle.stream.specs.RuleLists.{RuleLists, SymbolOf, TellsFirst, TellsNext, cell_of, chain, is_for, kind_for, label_for, place, positions, rules_for}
+use Rattle.stream.specs.RuleLists.{RuleLists, TellsNext, cell_of, chain, is_for, kind_for, label_for, place, positions, rules_for}
 use Rattle.stream.specs.RuleLists.{symbol, symbols}
 use Rattle.stream.proofs.Positions.{one_rest, records_here, records_none}
 use Rattle.stream.proofs.Symbols.{its_kind, its_label, place_from, symbol_low}
@@ -63,19 +62,6 @@ next_told input from lists k s rule passed low h e is =
 module _ (kind label : ℕ) (rule : RuleKind kind) (low : label ≤ 63) where
   of_symbol : (P : ℕ → ℕ → Type 0) → P (kind_for (symbol kind label)) (label_for (symbol kind label)) → P kind label
   of_symbol P h = subst (λ a. P a label) (its_kind kind label rule low) (subst (P (kind_for (symbol kind label))) (its_label kind label rule low) h)
-
-  first_told : (lists input : List ℕ) (from : ℕ) → RuleLists input from lists → NextRule input from kind label (get_or lists (symbol kind label) 0)
-  first_told lists input from k =
-      of_symbol (λ a l. NextRule input from a l (get_or lists (symbol kind label) 0)) (k.first (symbol kind label) (symbol_low kind label rule low))
-
--- the number of a symbol, and 0 where there is none
-abbrev pub number_at : List ℕ → Option ℕ → ℕ
-number_at lists (Some s) = get_or lists s 0
-number_at lists None = 0
-
-pub tells_first : (lists : List ℕ) (kind label : ℕ) (x : Option ℕ) → SymbolOf kind label x → TellsFirst lists kind label (number_at lists x)
-tells_first lists kind label x is input from k rule low =
-    subst (λ s. NextRule input from kind label (number_at lists s)) (sym (is.right rule low)) (first_told kind label rule low lists input from k)
 
 rule_kind : (kind label : ℕ) (r : StreamRecord) → is_rule_for kind label r ≡ true → RuleKind kind
 rule_kind kind label r e = ⊎_elim (λ w. inl (eqb-true kind 17 w)) (λ w. inr (eqb-true kind 18 (branch w))) (which (eqb kind 17))

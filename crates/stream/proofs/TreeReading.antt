@@ -22,7 +22,7 @@ use Rattle.stream.specs.Positions.{WholeBetween, after, record_at, records_betwe
 use Rattle.stream.specs.Reading.{TreeFacts, tree_facts, tree_reply}
 use Rattle.stream.proofs.EachRecord.{all_passed, first_refused, passes_more}
 use Rattle.stream.proofs.Positions.{behind_between, between_more, bytes_between, records_between_lem, records_here, records_none}
-use Rattle.stream.proofs.Positions.{whole_more, whole_none}
+use Rattle.stream.proofs.Positions.{whole_more}
 use Rattle.stream.proofs.TreeSteps.{branch_fewer, branch_passes, cut_record, few_unjoined, inside, kind, label_over, leaf_more, leaf_passes, many_nodes, most_more, step_tests, unjoined_most, unjoined_nodes}
 
 -- ---- bytes and nodes
@@ -42,17 +42,6 @@ pub record TreeSoFar (input : List ℕ) (at nodes now most : ℕ) : Type 0 where
   pub nodes_are : nodes ≡ length (records_between input 0 at)
   pub unjoined_are : now ≡ length (unjoined (records_between input 0 at))
   pub most_is : most ≡ most_unjoined (records_between input 0 at)
-
--- at the start of the input there is none
-pub tree_starts : (input : List ℕ) → TreeSoFar input 0 0 0 0
-tree_starts input = record {
-  before = whole_none input 0 (omega arith);
-  all_tree = λ r m. absurd (Memᴰ.not-nil m);
-  passed = tt;
-  nodes_are = refl;
-  unjoined_are = refl;
-  most_is = refl;
-}
 
 -- where the tree ends, one subtree decides: with no node there is none
 end_passes : (f : TreeFacts) (at : ℕ) (records : List StreamRecord) → length (unjoined records) ≡ 1

@@ -2,7 +2,7 @@
 use Rattle.std.proofs.Common.{true, ◌≡◌, ◌+◌, ◌∙◌, [], ◌∷◌, length, sym, arith}
 use Rattle.paper.specs.Query.{rules_of}
 use Rattle.stream.specs.Positions.{after, record_at}
-use Rattle.stream.proofs.InRange.{rule_kind}
+use Rattle.stream.proofs.Fitting.{a_rule}
 use Rattle.stream.proofs.QueryReading.{query_ends, query_goes_on, query_refused}
 use Rattle.stream.proofs.QuerySteps.{AtFittingRecord, Looked, few_rules, key_inside, many_rules, no_fit, no_rule, room, rules_as_before, rules_with_it, said_first, said_twice, table_next}
 use Rattle.stream.proofs.query.each_record.Goals as goal
@@ -25,7 +25,7 @@ pub returns-then-rules-ge-MOST_RULES : goal.returns-then-rules-ge-MOST_RULES
 returns-then-rules-ge-MOST_RULES c =
     let k = fitting (goal.at.returns-then-rules-ge-MOST_RULES c).Else-not-record_fits in
     query_refused _ _ _ _ c.loop-at.invariant.0 c.loop-at-test.true
-    (many_rules _ _ _ _ k (rule_kind c.args.input.now c.args.head.facts c.loop-at.at k.record_here.fitting c.if-input-at-ne-ACCEPTING_STATE.true) (omega (arith, c.loop-at.invariant.0.rules_are)))
+    (many_rules _ _ _ _ k (a_rule c.args.head.facts (record_at c.args.input.now c.loop-at.at) k.record_here.fitting c.if-input-at-ne-ACCEPTING_STATE.true) (omega (arith, c.loop-at.invariant.0.rules_are)))
 
 -- it is no rule too many, and is counted if it is one
 counted : (c : After-record_key)
