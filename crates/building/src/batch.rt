@@ -35,7 +35,7 @@ const BATCH_RECORDS: usize = WAITING_RECORDS + RULE_RECORDS;
 pub(crate) const BATCH_NUMBERS: usize = RECORD_NUMBERS * BATCH_RECORDS;
 
 // How many records stand in the batch, and the set that was made.
-#[derive(Clone, Copy)]
+#[derive(Clone, Copy, Debug, PartialEq, Eq)]
 pub(crate) struct Made {
     pub(crate) count: usize,
     pub(crate) set: u64,
@@ -60,7 +60,7 @@ fn new_record(batch: &mut [u16], k: usize, used: usize, new: Record) -> Made
     requires { RoomFor 1 used k batch.old }
     ensures { Makes (new_record new) 1 used k batch.old result batch.new }
 {
-    put(&mut *batch, k, new);
+    put(batch, k, new);
     Made {
         count: k + 1,
         set: (used + k) as u64 + FIRST_RECORD,
@@ -81,12 +81,12 @@ pub(crate) fn single(batch: &mut [u16], k: usize, used: usize, node: u16, flag: 
     }
     let new = Record {
         kind: SINGLE,
-        node: node,
+        node,
         left: 0,
         right: 0,
         flag: flag as u16,
     };
-    new_record(&mut *batch, k, used, new)
+    new_record(batch, k, used, new)
 }
 
 // Each row of the left set with each of the right: with unit the other factor, with empty empty. Empty
@@ -120,12 +120,12 @@ pub(crate) fn product(
     }
     let new = Record {
         kind: PRODUCT,
-        node: node,
+        node,
         left: (left - FIRST_RECORD) as u16,
         right: (right - FIRST_RECORD) as u16,
         flag: flag as u16,
     };
-    new_record(&mut *batch, k, used, new)
+    new_record(batch, k, used, new)
 }
 
 // The rows of the left set and then those of the right: with empty the other set. Unit meets only empty,
@@ -160,10 +160,10 @@ pub(crate) fn union(
     }
     let new = Record {
         kind: UNION,
-        node: node,
+        node,
         left: (left - FIRST_RECORD) as u16,
         right: (right - FIRST_RECORD) as u16,
         flag: flag as u16,
     };
-    new_record(&mut *batch, k, used, new)
+    new_record(batch, k, used, new)
 }

@@ -27,11 +27,7 @@ mod state;
 mod triples;
 
 // The set of a stream, in the lent table. Nothing is asked of the caller: what is wrong is refused.
-pub fn build(
-    input: &[u8],
-    work: &mut [u64],
-    table: &mut [Record],
-) -> Result<Head, StreamRefusal>
+pub fn build(input: &[u8], work: &mut [u64], table: &mut [Record]) -> Result<Head, StreamRefusal>
     ensures { Builds input.now work.old table.old result work.new table.new }
 {
     // The lists, and behind them the notes. Local, 3,410 bytes, as the batch of `drive`: no memory is asked

@@ -63,7 +63,12 @@ impl State {
     }
 
     // The set of the root, with its records in the batch, unless they pass the limit.
-    pub(crate) fn roots(&mut self, lists: &[u16], work: &[u64], batch: &mut [u16]) -> Result<u16, Refusal>
+    pub(crate) fn roots(
+        &mut self,
+        lists: &[u16],
+        work: &[u64],
+        batch: &mut [u16],
+    ) -> Result<u16, Refusal>
         requires at_end { AtEnd self.old lists.now work.now batch.old }
         requires batch_numbers_in_bounds { (batch_numbers ≤ length batch.old) × (self.old.count ≤ waiting_records) }
         ensures { Ends self.old lists.now work.now batch.old result self.new batch.new }

@@ -18,7 +18,7 @@ pub(crate) fn put_set(work: &mut [u64], shelf: usize, flag: usize, set: u64)
     ensures { Puts shelf flag set work.old work.new }
 {
     // There are at most 16 flags, so that the highest mark is bit 31.
-    work[shelf] = work[shelf] | SETS << flag;
+    work[shelf] |= SETS << flag;
     // At flag 0 the set stands in the number that has the marks, which stay.
     if flag == 0 {
         work[shelf] = work[shelf] / SETS * SETS + set;

@@ -11,7 +11,7 @@ use crate::triples::{LEFTS, MOST_FLAGS, TRIPLE_COUNT, TRIPLES};
 pub(crate) const NOTE_NUMBERS: usize = 2 * MOST_FLAGS;
 
 // A flag's two masks: bit b is set in `free` if flag b shares no bit with it, and in `shared` if it does.
-#[derive(Clone, Copy)]
+#[derive(Clone, Copy, Debug, PartialEq, Eq)]
 struct Masks {
     free: u16,
     shared: u16,

@@ -42,17 +42,17 @@ pub(crate) fn begin(
     }
     // The first rule of the first node `start_node` looks up.
     let mut state = State {
+        asked,
+        nodes: tree.nodes,
+        rules: query.rules,
+        shape,
+        limit: entries.min(MOST_RECORDS),
         from: 0,
         count: 0,
         at: 0,
         node: 0,
         top: 0,
         rule: 0,
-        nodes: tree.nodes,
-        rules: query.rules,
-        shape,
-        limit: entries.min(MOST_RECORDS),
-        asked,
     };
     list_rules(input, query.rules, lists);
     note(&mut lists[LIST_NUMBERS..], shape.flags());

@@ -4,24 +4,25 @@ ghost use Rattle.std.specs.Prelude.{◌≡◌, ◌+◌, ◌≤◌};
 use crate::frame::Shape;
 use paper::Refusal;
 
-// `from` is where the batch goes in the table, `count` how many records it has. `node` is the
-// number of the present node, `at` where its record stands, `top` how many frames are below its own,
-// `rule` where its next matching rule stands: the end of the input where none is left. The others stay:
-// the nodes, where the rules begin, the query's arity and states, the records that fit, the work asked
-// for.
+// The first five stay: the work asked for, the nodes, where the rules begin, the query's arity and states, the
+// records that fit. `from` is where the batch goes in the table, `count` how many records it has. `node` is the
+// number of the present node, `at` where its record stands, `top` how many frames are below its own, `rule` where
+// its next matching rule stands: the end of the input where none is left.
+// What is asked for rarely stands first: `begin` answers a Result, and the compiler keeps what lies where its
+// refusal would be in pieces, which are put together at each use.
 #[derive(Clone, Copy, Debug, PartialEq, Eq)]
 pub(crate) struct State {
+    pub(crate) asked: usize,
+    pub(crate) nodes: usize,
+    pub(crate) rules: usize,
+    pub(crate) shape: Shape,
+    pub(crate) limit: usize,
     pub(crate) from: usize,
     pub(crate) count: usize,
     pub(crate) at: usize,
     pub(crate) node: usize,
     pub(crate) top: usize,
     pub(crate) rule: usize,
-    pub(crate) nodes: usize,
-    pub(crate) rules: usize,
-    pub(crate) shape: Shape,
-    pub(crate) limit: usize,
-    pub(crate) asked: usize,
 }
 
 impl State {

@@ -1,7 +1,7 @@
 -- Demand 2 of the functions: what count, row by number, member and project answer of a set that `build` left, from the bytes handed to
 -- it. That a row stands in the set exactly if it is accepted, and once, is `build_right` (crate `building`); here the questions say the same.
 -- First any set whose definitions say what a list of rows says, then one that `build` left.
-use mathlib.Core.Bool.{true}
+use mathlib.Core.Bool.{Bool, false, true}
 use mathlib.Core.List.{List, []}
 use mathlib.Core.Logic.Iff
 use mathlib.Core.Logic.{◌↔◌}
@@ -15,7 +15,7 @@ use Rattle.paper.specs.declared.Record.{Record}
 use Rattle.paper.specs.Answers.{says_member, told}
 use Rattle.paper.specs.Questions.{marks_of, question_work}
 use Rattle.paper.specs.Records.{listing}
-use Rattle.paper.specs.Refusals.{Reply, answer, is_open, output_after, over}
+use Rattle.paper.specs.Refusals.{Reply, is_open, output_after, over}
 use Rattle.paper.specs.Row.{Row}
 use Rattle.laws.specs.Built.{BuiltSet, InAnswer, SaysTheAnswer, Stood}
 use Rattle.laws.specs.QuestionCauses.{WrongEntry}
@@ -73,23 +73,23 @@ module _ (input work : List ℕ) (table : List Record) (h : Head) (work' : List 
 
   -- row by number writes the row of the list
   pub row_right : (w w' out out' : List ℕ) (k : ℕ) (r : Result (Unit {0}) Refusal) → question_work h ≤ length w → k < length (listing h table') → h.arity ≤ length out
-      → Numbers h table' w k out r w' out' → (r ≡ (Ok tt)) × (out' ≡ over (get_or (listing h table') k []) out)
+      → Numbers h table' w k out r w' out' → (r ≡ Ok tt) × (out' ≡ over (get_or (listing h table') k []) out)
   row_right = say.numbers
 
   -- member says yes exactly to the accepted rows
   pub member_right : (w w' : List ℕ) (row : Row) (r : Result Bool Refusal) → question_work h ≤ length w → Members h table' w row r w'
-      → (r ≡ (Ok true)) ↔ InAnswer input row
+      → (r ≡ Ok true) ↔ InAnswer input row
   member_right w w' row r enough c = Iff.trans (say.members w w' row r enough c) (right.lists row)
 
   -- and no to every other row that has an entry a place, none of them wrong
   pub other_right : (w w' : List ℕ) (row : Row) (r : Result Bool Refusal) → question_work h ≤ length w → length row ≡ h.arity → (WrongEntry h row → ⊥)
-      → (InAnswer input row → ⊥) → Members h table' w row r w' → r ≡ (Ok false)
+      → (InAnswer input row → ⊥) → Members h table' w row r w' → r ≡ Ok false
   other_right w w' row r enough long wrong none = say.others w w' row r enough long wrong (λ m. none ((right.lists row).0 m))
 
   -- project marks exactly the nodes that stand there in some accepted row
   pub project_right : (w w' out out' : List ℕ) (place : ℕ) (r : Result (Unit {0}) Refusal) → question_work h ≤ length w → is_open h place ≡ true
       → h.nodes ≤ length out → Projects h table' w place out r w' out'
-      → (r ≡ (Ok tt)) × (out' ≡ over (marks_of h table' place) out)
+      → (r ≡ Ok tt) × (out' ≡ over (marks_of h table' place) out)
       × ((n : ℕ) → n < h.nodes → (get_or (marks_of h table' place) n 0 ≡ 1) ↔ Stood input place n)
   project_right w w' out out' place r enough stands_open room c =
       let (marked, written, marks) = say.projects w w' out out' place r enough stands_open room c in

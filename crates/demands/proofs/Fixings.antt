@@ -75,7 +75,7 @@ follows : {h : Head} {table : List Record} {c : Call} {fs : List Fixing} → Giv
     → following c.result (λ number. Unit {0}) (λ head. P head c.target') ↔ P (head_after h table c) (left_after h table c)
 follows g P = (subst₂ Said g.answers g.leaves, subst₂ Said (sym g.answers) (sym g.leaves))
   where
-    Said : Fixed → List Record → Type 0
+    Said : Result Head Refusal → List Record → Type 0
     Said r t = following r (λ number. Unit {0}) (λ head. P head t)
 
 -- ---- one call after another

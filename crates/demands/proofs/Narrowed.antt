@@ -1,6 +1,6 @@
 -- Demand 3 of the functions goes on to the questions: what count, row by number, member and project answer of the set that calls of
 -- `fix` left. First of any narrowed set, then from the bytes handed to `build`.
-use mathlib.Core.Bool.{true}
+use mathlib.Core.Bool.{Bool, false, true}
 use mathlib.Core.List.{List, [], map}
 use mathlib.Core.Logic.Iff
 use mathlib.Core.Logic.{◌↔◌}
@@ -84,25 +84,25 @@ module _ (input work : List ℕ) (table : List Record) (h : Head) (work' : List 
   -- row by number writes the entry of the list
   pub row_narrowed : (w w' out out' : List ℕ) (k : ℕ) (r : Result (Unit {0}) Refusal) → question_work head ≤ length w
       → k < length (narrowed (fixings_in cs) (listing h table')) → h.arity ≤ length out → Numbers head left w k out r w' out'
-      → (r ≡ (Ok tt)) × (out' ≡ over (get_or (narrowed (fixings_in cs) (listing h table')) k []) out)
+      → (r ≡ Ok tt) × (out' ≡ over (get_or (narrowed (fixings_in cs) (listing h table')) k []) out)
   row_narrowed w w' out out' k r enough below room =
       say.numbers w w' out out' k r enough below (subst (λ (n : ℕ). n ≤ length out) (sym fixed.arity) room)
 
   -- member says yes exactly to what is left of the accepted rows, whatever row it is given
   pub member_narrowed : (w w' : List ℕ) (row : Row) (r : Result Bool Refusal) → question_work head ≤ length w → Members head left w row r w'
-      → (r ≡ (Ok true)) ↔ LeftOf (InAnswer input) (fixings_in cs) row
+      → (r ≡ Ok true) ↔ LeftOf (InAnswer input) (fixings_in cs) row
   member_narrowed w w' row r enough c = Iff.trans (say.members w w' row r enough c) (narrowed_accepted row)
 
   -- and no to every other row that has an entry a place, none of them wrong
   pub other_narrowed : (w w' : List ℕ) (row : Row) (r : Result Bool Refusal) → question_work head ≤ length w → length row ≡ h.arity → (WrongEntry head row → ⊥)
-      → (LeftOf (InAnswer input) (fixings_in cs) row → ⊥) → Members head left w row r w' → r ≡ (Ok false)
+      → (LeftOf (InAnswer input) (fixings_in cs) row → ⊥) → Members head left w row r w' → r ≡ Ok false
   other_narrowed w w' row r enough long wrong none =
       say.others w w' row r enough (long ∙ sym fixed.arity) wrong (λ m. none ((narrowed_accepted row).0 m))
 
   -- project of a place that was not fixed marks exactly the nodes that stand there in what is left of some accepted row
   pub project_narrowed : (w w' out out' : List ℕ) (place : ℕ) (r : Result (Unit {0}) Refusal) → question_work head ≤ length w → 1 ≤ place → place ≤ h.arity
       → (place ∈ map (λ f. f.place) (fixings_in cs) → ⊥) → h.nodes ≤ length out → Projects head left w place out r w' out'
-      → (r ≡ (Ok tt)) × (out' ≡ over (marks_of head left place) out)
+      → (r ≡ Ok tt) × (out' ≡ over (marks_of head left place) out)
       × ((n : ℕ) → n < h.nodes
       → (get_or (marks_of head left place) n 0 ≡ 1) ↔ ((row : Row) × LeftOf (InAnswer input) (fixings_in cs) row × (get_or row (place - 1) blank ≡ n)))
   project_narrowed w w' out out' place r enough from to other room c =

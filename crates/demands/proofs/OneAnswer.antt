@@ -1,5 +1,6 @@
 -- The contracts of the questions leave no freedom: two results that one allows for one input are equal, in the answer and in every lent
 -- buffer, refusals too. First the pass that all of them begin with. (`one_build` stands in crate `building`, those of the readers in `stream`.)
+use mathlib.Core.Bool.{Bool}
 use mathlib.Core.List.{List}
 use mathlib.Core.Path.{◌≡◌, sym, ◌∙◌}
 use Prim.Native.Nat.{ℕ}

@@ -1,6 +1,7 @@
 -- Demand 1 of the functions: a call, known by its contract alone, returns a number exactly if that is the first in the paper's order
 -- whose cause applies, with 1 to 4 at the position of the record at fault, and answers exactly if no cause does.
--- First one law for every answer enum, then the six functions of document 01.
+-- First one law for every answer, then the six functions of document 01.
+use mathlib.Core.Bool.{Bool}
 use mathlib.Core.List.{List}
 use mathlib.Core.Logic.Iff
 use mathlib.Core.Logic.{◌↔◌, ◌⊎◌, inl, inr, ⊎_elim}
@@ -43,28 +44,28 @@ told_same : {A : Type 0} (reply : Reply A) → reply ≡ told (λ a. a) reply
 told_same (refused n) = refl
 told_same (answer a) = refl
 
+-- a result is a refusal, or it says an answer
+cases : {Why B : Type 0} (said : Why → No) (r : Result B Why) → ((why : Why) × (r ≡ Err why)) ⊎ ((b : B) × (says said r ≡ answer b))
+cases said (Ok b) = inr (b, refl)
+cases said (Err why) = inl (why, refl)
+
 -- a result that says what a reply is, where that is exact
 module _ {Why A B : Type 0} (said : Why → No) where
-  -- a result is a refusal, or it says an answer
-  cases : (r : Result B Why) → ((why : Why) × (r ≡ Err why)) ⊎ ((b : B) × (says said r ≡ answer b))
-  cases (Ok b) = inr (b, refl)
-  cases (Err why) = inl (why, refl)
-
   pub exact_reply : (f : A → B) (reply : Reply A) (r : Result B Why) → says said r ≡ told f reply → {First : No → Type 0} {None : Type 0}
       → ((n : No) → (reply ≡ refused n) ↔ First n) → ((a : A) × (reply ≡ answer a)) ↔ None → Exact said r First None
   exact_reply f reply r is {First} {None} firsts none = record {
     returns = λ n. Iff.trans (returned n) (Iff.trans (told_refused f reply n) (firsts n));
-    answers = Iff.trans (λ w. given (cases r) w, λ (a, e) why q. refused_not_answer (ap (says said) (sym q) ∙ is ∙ ap (told f) e)) none;
+    answers = Iff.trans (λ w. given (cases said r) w, λ (a, e) why q. refused_not_answer (ap (says said) (sym q) ∙ is ∙ ap (told f) e)) none;
   }
     where
       -- what is returned is what is said
       returned : (n : No) → Returns said r n ↔ (told f reply ≡ refused n)
       returned n = (
-        λ (why, e, no). sym is ∙ ap (says said) e ∙ ap refused no,
+        λ (why, e, told-no). sym is ∙ ap (says said) e ∙ ap refused told-no,
         λ e. ⊎_elim
             (λ (why, q). (why, q, refused_inj (ap (says said) (sym q) ∙ is ∙ e)))
             (λ (b, q). absurd (refused_not_answer (sym (is ∙ e) ∙ q)))
-            (cases r),
+            (cases said r),
       )
 
       -- an answer said is the answer

@@ -1,10 +1,9 @@
 -- Calls of `fix`, one after another, as a program makes them: each with the buffers lent to it and with what it gave, which is known
 -- only by its contract.
-use Rattle.std.specs.Prelude.{Err, Ok, Result}
-use Rattle.paper.specs.declared.Refusal.{Refusal}
-use Rattle.std.specs.Prelude.{List, [], ◌∷◌, map, ◌≡◌, ℕ, ◌≤◌, length}
+use Rattle.std.specs.Prelude.{Err, Ok, Result, List, [], ◌∷◌, map, ◌≡◌, ℕ, ◌≤◌, length}
 use Rattle.paper.specs.declared.Head.{Head}
 use Rattle.paper.specs.declared.Record.{Record}
+use Rattle.paper.specs.declared.Refusal.{Refusal}
 use Rattle.paper.specs.Answers.{no_of}
 use Rattle.paper.specs.Questions.{question_work}
 use Rattle.paper.specs.Records.{listing}

@@ -3,7 +3,7 @@ use mathlib.Core.Bool.{Bool, ◌||◌, false, true, true≢false}
 use mathlib.Core.List.{List}
 use mathlib.Core.Logic.{⊎_elim}
 use mathlib.Core.Path.{◌∙◌, ◌≡◌, ap, refl, subst, sym}
-use Prim.Native.Nat.{◌+◌, ◌<◌, ◌≤◌, suc, ℕ}
+use Prim.Native.Nat.{◌+◌, ◌<◌, ◌≤◌, ℕ}
 use native.Mathlib.Numerals.{add-one}
 use native.Mathlib.Omega.{arith}
 use lib.ListN.{drop, get_or, length, length-set, set, take}
@@ -30,20 +30,6 @@ pub record Before (f : Fixing) (used : List Record) (first : List ℕ) (k count 
   pub none : unit_twice (images f used) (take k used) ≡ false
 
 module _ {f : Fixing} {used : List Record} {first : List ℕ} {k count : ℕ} {work : List ℕ} (now : Before f used first k count work) where
-  -- ---- behind the last record
-  pub ended : k ≡ length used → Imaged f used first (Ok tt) work
-  ended end = record {
-    rest = now.rest;
-    twice = rw none_at_all refl;
-    found = λ _ i l. now.has i (omega (arith, l, end)) ∙ ap (λ (all : List Record). set_number (get_or (images f all) i empty)) whole;
-  }
-    where
-      whole : take k used ≡ used
-      whole = ap (λ (m : ℕ). take m used) end ∙ all_of used
-
-      none_at_all : unit_twice (images f used) used ≡ false
-      none_at_all = ap (unit_twice (images f used)) (sym whole) ∙ now.none
-
   -- ---- at a record
   module _ (below : k < length used) where
     abbrev r : Record

@@ -1,9 +1,9 @@
 -- One record of the source, in either pass, where the images of the records before it stand in the work: what its operands have become, whether
 -- it is a union of unit and unit, and what its image is.
-use mathlib.Core.Bool.{Bool, ◌&&◌, false, true}
-use mathlib.Core.List.{List, [], ◌∷◌, ◌++◌}
-use mathlib.Core.Path.{◌∙◌, ◌≡◌, ap, ap₂, refl, sym}
-use Prim.Native.Nat.{◌+◌, ◌<◌, ◌≤◌, suc, ℕ}
+use mathlib.Core.Bool.{Bool, false, true}
+use mathlib.Core.List.{List}
+use mathlib.Core.Path.{◌∙◌, ◌≡◌, ap, refl, sym}
+use Prim.Native.Nat.{◌+◌, ◌<◌, ◌≤◌, ℕ}
 use native.Mathlib.Numerals.{add-one}
 use native.Mathlib.Omega.{arith}
 use borrow.Author.Tests.{eqb-false, eqb-true, ne_eqb}
@@ -14,7 +14,7 @@ use Rattle.paper.specs.Sound.{entry}
 use Rattle.table.specs.declared.made.Made.{Made}
 use Rattle.table.specs.Made.{Makes, after}
 use Rattle.table.proofs.Sets.{set_number_lem}
-use Rattle.fix.specs.Images.{Fixing, InWork, OperandsInWork, Record, Set, at, empty, image_with, operands_in, set_at, set_in, set_number, twice_in}
+use Rattle.fix.specs.Images.{Fixing, InWork, OperandsInWork, Record, Set, empty, image_with, operands_in, set_at, set_in, set_number, twice_in}
 use Rattle.fix.specs.Passes.{Fitting, images, new_records}
 use Rattle.fix.proofs.ImageSteps.{at_hand, few_records, image_stays, image_after, last_image, records_next, twice_at}
 

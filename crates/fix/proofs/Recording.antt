@@ -13,7 +13,7 @@ use Rattle.table.specs.Made.{Makes, after}
 use Rattle.fix.specs.Images.{Fixing, Record, Set, image_with, operands_in, set_number}
 use Rattle.fix.specs.Passes.{Fitting, Numbered, new_records}
 use Rattle.fix.proofs.ImageSteps.{none_new}
-use Rattle.fix.proofs.OneRecord.{HasImages, all_of, few_made, in_the_end, next_records}
+use Rattle.fix.proofs.OneRecord.{HasImages, few_made, in_the_end, next_records}
 
 -- the new records of those before it are the target's first ones
 pub record Before (f : Fixing) (used target₀ : List Record) (k count : ℕ) (target : List Record) : Type 0 where
@@ -30,16 +30,6 @@ over_next (y ∷ ys) (x ∷ xs) r l = ap (λ (t : List Record). y ∷ t) (over_n
 
 module _ {f : Fixing} {used : List Record} {work : List ℕ} (fit : Fitting used work) (numbered : Numbered f used work) {target₀ target : List Record}
     {k count : ℕ} (now : Before f used target₀ k count target) where
-  -- ---- behind the last record
-  pub ended : k ≡ length used → (count ≡ length (new_records f used)) × (target ≡ over (new_records f used) target₀)
-  ended end = (
-    now.made ∙ ap (λ (all : List Record). length (new_records f all)) whole,
-    now.written ∙ ap (λ (all : List Record). over (new_records f all) target₀) whole,
-  )
-    where
-      whole : take k used ≡ used
-      whole = ap (λ (m : ℕ). take m used) end ∙ all_of used
-
   -- ---- at a record
   module _ (below : k < length used) where
     -- the images of the first records are those of the whole pass

@@ -38,7 +38,7 @@ pub fn fix(
     fixed
 }
 
-// The same of a set that is sound, with the weights or images left in the work.
+// The same of a set that is sound; the weights or images are left in the work.
 fn answer(
     head: Head,
     source: &[Record],

@@ -13,13 +13,15 @@ use Rattle.std.specs.Int.{from_bool}
 use Rattle.paper.specs.declared.Head.{Head}
 use Rattle.paper.specs.declared.Record.{Record}
 use Rattle.paper.specs.declared.Set.TheVariants.{Record as at, Unit as unit}
+use Rattle.paper.specs.declared.kinds.RecordKind.{RecordKind}
 use Rattle.paper.specs.declared.kinds.RecordKind.TheVariants.{Single, Union, Product}
+use Rattle.paper.specs.Kinds.{kind_number}
 use Rattle.paper.specs.Lists.{same}
 use Rattle.paper.specs.Questions.{is_listed}
 use Rattle.paper.specs.Records.{blank_entry, listing, listings, set_rows, used_of}
 use Rattle.paper.specs.Row.{Row, blank}
 use Rattle.paper.specs.Sound.{entry}
-use Rattle.laws.specs.QuestionCauses.{IsProduct, IsSingle, IsUnion, SetFits, SoundAt}
+use Rattle.laws.specs.QuestionCauses.{SetFits, SoundAt}
 use Rattle.laws.proofs.Lists.{same_refl}
 use Rattle.sound.proofs.Cells.{used_length}
 use Rattle.member.specs.Pass.{Finds, Fitting}
@@ -36,9 +38,6 @@ pub record Passing (h : Head) (table : List Record) (row : Row) (before : List �
   pub cells : (j : ℕ) → j < i → get_or work j 0 ≡ from_bool (lists_at h table row j)
   pub rest : drop h.used work ≡ drop h.used before
 
-pub passing_first : (h : Head) (table : List Record) (row : Row) (work : List ℕ) → Passing h table row work 0 work
-passing_first h table row work = record { cells = λ j l. absurd (omega arith); rest = refl }
-
 module _ {h : Head} {table : List Record} {work : List ℕ} {row : Row} (F : Fitting h table work row) where
   used_long : length (used_of h table) ≡ h.used
   used_long = used_length h table F.sound.used_there
@@ -51,14 +50,14 @@ module _ {h : Head} {table : List Record} {work : List ℕ} {row : Row} (F : Fit
     root_fits : SetFits h (used_of h table) (at root)
     root_fits = subst (SetFits h (used_of h table)) is F.sound.set
 
-    pub root_inside : root < h.used
+    root_inside : root < h.used
     root_inside = root_fits.0
 
     -- the records of the pass
     abbrev passed : List Record
     passed = take (root + 1) table
 
-    pub passed_long : root + 1 ≡ length passed
+    passed_long : root + 1 ≡ length passed
     passed_long = sym (length-take-le (root + 1) table (omega (arith, root_inside, F.sound.used_there)))
 
     -- ---- a turn
@@ -73,16 +72,15 @@ module _ {h : Head} {table : List Record} {work : List ℕ} {row : Row} (F : Fit
 
       -- the record has a kind, and its operands do not stand behind it
       pub reads : (now : List ℕ) → length now ≡ length work → Reads (entry passed i) now
-      reads now long = subst (λ (r : Record). Reads r now) read (⊎_elim single (⊎_elim union product) (sounds i (omega (arith, used_long, inside))).kind)
+      reads now long = subst (λ (r : Record). Reads r now) read (
+        ⊎_elim (λ e. kept Single e.0 (omega (arith, e.1)) (omega (arith, e.2)))
+        (⊎_elim (λ e. kept Union e.0 (omega (arith, e.1)) (omega (arith, e.2))) (λ e. kept Product e.0 (omega (arith, e.1)) (omega (arith, e.2))))
+        (sounds i (omega (arith, used_long, inside))).kind
+      )
         where
-          single : IsSingle (entry (used_of h table) i) → Reads (entry (used_of h table) i) now
-          single e = record { kind = (Single, e.0); left = omega (arith, e.1, F.room, inside); right = omega (arith, e.2, F.room, inside) }
-
-          union : IsUnion (used_of h table) i (entry (used_of h table) i) → Reads (entry (used_of h table) i) now
-          union e = record { kind = (Union, e.0); left = omega (arith, e.1, F.room, inside); right = omega (arith, e.2, F.room, inside) }
-
-          product : IsProduct (used_of h table) i (entry (used_of h table) i) → Reads (entry (used_of h table) i) now
-          product e = record { kind = (Product, e.0); left = omega (arith, e.1, F.room, inside); right = omega (arith, e.2, F.room, inside) }
+          kept : (k : RecordKind) → (entry (used_of h table) i).kind ≡ kind_number k → (entry (used_of h table) i).left ≤ i
+              → (entry (used_of h table) i).right ≤ i → Reads (entry (used_of h table) i) now
+          kept k is left right = record { kind = (k, is); left = omega (arith, F.room, inside); right = omega (arith, F.room, inside) }
 
       pub onward : {now : List ℕ} → length now ≡ length work → Passing h table row work i now
           → Passing h table row work (i + 1) (set now i (from_bool (lists row now (entry passed i))))

@@ -1,9 +1,10 @@
 // Member: whether a set lists a row. First the question, then its own tests, which are of the row.
 #![tactic(auto)]
 
-ghost use Rattle.std.specs.Prelude.{◌≡◌};
+ghost use Rattle.std.specs.Prelude.{◌≡◌, ◌≤◌, length};
 ghost use Rattle.paper.specs.Refusals.{entries_fit};
-ghost use Rattle.member.specs.Answer.{Askable, Answers};
+ghost use Rattle.laws.specs.QuestionCauses.{Sound};
+ghost use Rattle.member.specs.Answer.{Answers};
 ghost use Rattle.member.specs.Face.{Members};
 
 use crate::pass::lists_row;
@@ -27,7 +28,8 @@ pub fn member(head: Head, table: &[Record], work: &mut [u64], row: &[u16]) -> Re
 // What is answered of a sound set: 13, then 8, as the paper orders them, then what the pass finds.
 // Entries are looked at only where there is one for each place.
 fn answer(head: Head, table: &[Record], work: &mut [u64], row: &[u16]) -> Result<bool, Refusal>
-    requires { Askable head table.now work.old }
+    requires sound { Sound head table.now }
+    requires room { head.used ≤ length work.old }
     ensures { Answers head table.now work.old row.now result work.new }
 {
     if row.len() != head.arity as usize {

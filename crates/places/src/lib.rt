@@ -1,6 +1,8 @@
 // The places of a flag: how many there are, whether one of them is there, the flag without it, and
 // whether a place of a head is open. Place 1 has index 0 and the lowest bit.
 // No function asks for anything, so each answers for any number, also for one that no sound set has.
+// They take a flag as the number that stands in the fields of records and heads, which are C's: as methods
+// of `Flag` they would be no plainer, since each call would wrap the field first.
 #![tactic(auto)]
 
 ghost use Rattle.std.specs.Prelude.{◌≡◌};
@@ -44,13 +46,6 @@ pub fn without_place(flag: u16, index: usize) -> u16
 pub fn is_open(head: Head, place: u16) -> bool
     ensures { result ≡ is_open head place }
 {
-    // Place 0 has no index: it goes before 1 is taken from it.
-    if place < 1 {
-        return false;
-    }
-    // Of a head that is not sound, places above the arity may be open too.
-    if head.arity < place {
-        return false;
-    }
-    has_place(head.open_places, (place - 1) as usize)
+    // Place 0 has no index. Of a head that is not sound, places above the arity may be open too.
+    1 <= place && place <= head.arity && has_place(head.open_places, (place - 1) as usize)
 }

@@ -8,7 +8,7 @@ use mathlib.Core.Logic.{◌↔◌, ⊎_elim}
 use mathlib.Core.Path.{◌∙◌, ◌≡◌, ap, refl, sym}
 use Prim.Native.Nat.{◌+◌, ◌-◌, ◌<◌, ◌≤◌, suc, zero, ℕ}
 use native.Mathlib.Omega.{arith}
-use borrow.Author.Tests.{eq-eqb, eqb-false, eqb-true, leb-true}
+use borrow.Author.Tests.{eqb-false, eqb-true, leb-true}
 use lib.Dec.{eqb, leb}
 use lib.ListN.{drop, get_or, length, length-set, set, take}
 use lib.Seq.{drop-set-lt, get_or-set_other, get_or-set_same, get_or-take, length-take-le}
@@ -25,9 +25,8 @@ use Rattle.laws.specs.QuestionCauses.{SetFits, Sound}
 use Rattle.laws.specs.Said.{StandsIn}
 use Rattle.laws.proofs.Listed.{row_stands, stands_row}
 use Rattle.laws.proofs.Bits.{no_places}
-use Rattle.laws.proofs.Lists.{both_true, iff_eq, or_cases, or_left, or_right, which}
+use Rattle.laws.proofs.Lists.{both_true, iff_eq, in_at, or_cases, true_has, which}
 use Rattle.sound.proofs.Overwriting.{cleared_all}
-use Rattle.project.specs.Answer.{Askable}
 use Rattle.project.specs.Marks.{Kept, marks_in}
 use Rattle.project.specs.Passing.{InWork, Ready, nodes_kept, passed, root_marked, turns}
 use Rattle.project.proofs.Zeros.{zeroed, zeroed_length, zeroed_rest, zeroed_within}
@@ -41,9 +40,7 @@ has_index (y ∷ ys) x e =
     ⊎_elim (λ w. (0, omega arith, eqb-true y x w)) (λ w. let (k, l, is) = has_index ys x w in (suc k, omega arith, is)) (or_cases (eqb y x) (has ys x) e)
 
 index_has : (xs : List ℕ) (k x : ℕ) → k < length xs → get_or xs k 0 ≡ x → has xs x ≡ true
-index_has [] k x l e = absurd (omega arith)
-index_has (y ∷ ys) zero x l e = or_left (eqb y x) (has ys x) (eq-eqb y x e)
-index_has (y ∷ ys) (suc k) x l e = or_right (eqb y x) (has ys x) (index_has ys k x (omega arith) e)
+index_has xs k x l e = true_has xs x (Memᴰ.cast (sym e) (in_at 0 xs k l))
 
 -- tests that agree on the numbers from k up give the same bytes
 same_bytes : (p q : ℕ → Bool) (n k : ℕ) → ((m : ℕ) → m < k + n → p m ≡ q m)
@@ -58,8 +55,11 @@ pub record Ends (h : Head) (table : List Record) (place : ℕ) (work now : List 
   pub marks : marks_in (take h.used now) h.nodes ≡ marks_of h table place
 
 -- each record that is looked at is in the table, and its cells are in the work
-pub pass_ready : {h : Head} {table : List Record} {work : List ℕ} → Askable h table work → Ready h table work
-pass_ready {h} {table} {work} A = record { there = omega (arith, few h.set A.sound.set, A.sound.used_there); cells = λ k w. in_work k (omega (arith, few h.set A.sound.set)) }
+pub pass_ready : {h : Head} {table : List Record} → Sound h table → (work : List ℕ) → h.used ≤ length work → Ready h table work
+pass_ready {h} {table} S work room = record {
+  there = omega (arith, few h.set S.set, S.used_there);
+  cells = λ k w. in_work k (omega (arith, few h.set S.set));
+}
   where
     few : (set : Set) → SetFits h (used_of h table) set → turns set ≤ h.used
     few empty fits = omega arith
@@ -69,9 +69,8 @@ pass_ready {h} {table} {work} A = record { there = omega (arith, few h.set A.sou
     in_work : (k : ℕ) → k < h.used → InWork k (entry table k) work
     in_work k l =
         let same : entry (used_of h table) k ≡ entry table k = get_or-take h.used table k blank_entry l in
-        let (left, right) = operands_low h table A.sound k l in
-        let room = A.room in
-        rw (← same) (record { kind = known_kind h table A.sound k l; own = omega arith; left = omega (arith, left); right = omega (arith, right) })
+        let (left, right) = operands_low h table S k l in
+        rw (← same) (record { kind = known_kind h table S k l; own = omega arith; left = omega (arith, left); right = omega (arith, right) })
 
 module _ (h : Head) (table : List Record) (S : Sound h table) (place : ℕ) (opened : is_open h place ≡ true) where
   abbrev i : ℕ

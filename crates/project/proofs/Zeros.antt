@@ -6,7 +6,7 @@ use native.Mathlib.Omega.{arith}
 use lib.ListN.{drop, get_or, get_or-replicate, length, length-replicate, replicate}
 use lib.Seq.{drop_at}
 use Rattle.paper.specs.Refusals.{over}
-use Rattle.sound.proofs.Overwriting.{over_behind, over_length, over_within}
+use Rattle.sound.proofs.Overwriting.{over_length, over_within}
 
 module _ (l : List ℕ) (i : ℕ) where
   -- the first i are 0
@@ -21,9 +21,6 @@ module _ (l : List ℕ) (i : ℕ) where
 
   pub zeroed_within : (k : ℕ) → k < i → get_or zeroed k 0 ≡ 0
   zeroed_within k h = over_within (replicate i 0) l k (omega (arith, long)) ∙ get_or-replicate i k 0 0 h
-
-  pub zeroed_behind : (k : ℕ) → i ≤ k → get_or zeroed k 0 ≡ get_or l k 0
-  zeroed_behind k h = over_behind (replicate i 0) l k (omega (arith, long))
 
   pub zeroed_rest : drop i zeroed ≡ drop i l
   zeroed_rest = drop_at (replicate i 0) (drop (length {A = ℕ} (replicate i 0)) l) i long ∙ ap (λ (n : ℕ). drop n l) long

@@ -1,5 +1,5 @@
 -- The question's own tests, and its answer, of a sound set.
-use Rattle.std.specs.Prelude.{List, [], ◌∷◌, ◌≡◌, ℕ, Result, ◌≤◌, leb, length, drop}
+use Rattle.std.specs.Prelude.{List, [], ◌∷◌, ◌≡◌, ℕ, Result, leb, length, drop}
 use Rattle.paper.specs.declared.Head.{Head}
 use Rattle.paper.specs.declared.Record.{Record}
 use Rattle.paper.specs.declared.Refusal.{Refusal}
@@ -7,17 +7,11 @@ use Rattle.paper.specs.declared.Refusal.TheVariants.{Place, ShortOutput}
 use Rattle.paper.specs.Answers.{says_projected, told}
 use Rattle.paper.specs.Questions.{marks_of}
 use Rattle.paper.specs.Refusals.{Reply, is_open, output_after, unless}
-use Rattle.laws.specs.QuestionCauses.{Sound}
 use Rattle.sound.specs.Questions.{OwnTest, tests_of}
 
 -- 7, then 10
 abbrev pub own_tests : Head → ℕ → ℕ → List OwnTest
 own_tests h place room = (Place, is_open h place) ∷ (ShortOutput, leb h.nodes room) ∷ []
-
--- the set is sound, and the work has the cells that the question asks for
-pub record Askable (h : Head) (table : List Record) (work : List ℕ) : Type 0 where
-  pub sound : Sound h table
-  pub room : h.used ≤ length work
 
 -- what the tests come to, or the marks
 abbrev pub own_reply_of : Head → List Record → ℕ → ℕ → Reply (List ℕ)

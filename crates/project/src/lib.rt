@@ -2,8 +2,9 @@
 // question, then its own tests, then the marks.
 #![tactic(auto)]
 
-ghost use Rattle.std.specs.Prelude.{◌≡◌, length};
-ghost use Rattle.project.specs.Answer.{Askable, Answers};
+ghost use Rattle.std.specs.Prelude.{◌≡◌, ◌≤◌, length};
+ghost use Rattle.laws.specs.QuestionCauses.{Sound};
+ghost use Rattle.project.specs.Answer.{Answers};
 ghost use Rattle.project.specs.Face.{Projects};
 ghost use Rattle.project.specs.Marks.{Kept, marks_in};
 
@@ -39,7 +40,8 @@ fn answer(
     place: u16,
     out: &mut [u8],
 ) -> Result<(), Refusal>
-    requires { Askable head table.now work.old }
+    requires sound { Sound head table.now }
+    requires room { head.used ≤ length work.old }
     ensures { Answers head table.now work.old place out.old result work.new out.new }
 {
     let nodes = head.nodes as usize;

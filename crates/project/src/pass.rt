@@ -10,8 +10,8 @@ use paper::{Head, Record, Set};
 use places::has_place;
 use sound::clear;
 
-// The cell of a record under the root that is still to be looked at. A single that is passed may keep
-// the same number, for node 0; but a record's turn comes once.
+// The cell of a record under the root that is still to be looked at. The work is lent as numbers, so a
+// single that is passed may keep the same number, for node 0; but a record's turn comes once.
 const MARKED: u64 = 1;
 
 // The nodes at the place with this index, each in the cell of a single that has it there; the other

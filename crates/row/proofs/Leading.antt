@@ -10,6 +10,7 @@ use native.Mathlib.Omega.{arith}
 use borrow.Author.Tests.{eqb-true}
 use lib.Dec.{eqb}
 use lib.ListN.{get_or-append, get_or, length, take}
+use lib.Seq.{get_or-append_right}
 use Rattle.paper.specs.Questions.{has_place}
 use Rattle.paper.specs.Records.{listings}
 use Rattle.paper.specs.Row.{Row, blank, merge, products, single_row}
@@ -19,13 +20,12 @@ use Rattle.laws.proofs.Listings.{listings_at, listings_first}
 use Rattle.laws.proofs.Shaped.{product_rows, shaped_all, single_rows, union_rows}
 use Rattle.laws.proofs.Shapes.{entry_blank, entry_node, merge_at_left, merge_at_right, places_of, single_at}
 use Rattle.laws.proofs.SoundRecords.{sound_from_all}
-use Rattle.sound.proofs.Cells.{used_length}
 use Rattle.sound.proofs.RowCounts.{product_count, single_count, union_count}
 use Rattle.row.specs.declared.set.Listed.{Listed}
 use Rattle.row.specs.declared.set.SoundSet.{SoundSet}
 use Rattle.row.specs.Listed.{HasSameEntry, IsListed, IsSameRow, Record, entry_at, record_at, row_at, rows_at, used_in}
-use Rattle.row.proofs.RowNumbers.{Factors, factors, right_row, row_listed}
-use Rattle.row.proofs.SoundSets.{is_sound}
+use Rattle.row.proofs.RowNumbers.{Factors, factors, row_listed}
+use Rattle.row.proofs.SoundSets.{is_sound, used_long}
 
 -- a place of a flag is one of the arity's
 place_below : (k p b : ℕ) → b < 2 ^ k → has_place b p ≡ true → p < k
@@ -38,16 +38,14 @@ module _ {s : SoundSet} where
   -- ---- what a row that is listed is
   module _ {row : Listed} (l : IsListed s row) where
     there : row.at < length (used_in s)
-    there = omega (arith, l.used, used_length s.head s.table.now (is_sound s).used_there)
+    there = omega (arith, l.used, used_long s)
 
     shape : (length (row_at s row) ≡ s.head.arity) × (places_of (row_at s row) ≡ (record_at s row.at).flag)
     shape =
-        let all =
-        shaped_all s.head.arity s.head.nodes (is_sound s).few_nodes (used_in s)
-        ((sound_from_all s.head.arity s.head.nodes (used_in s)).1
-        (λ j below. (is_sound s).records j (omega (arith, used_length s.head s.table.now (is_sound s).used_there))))
-        row.at there (row_at s row) (row_listed (rows_at s row.at) row.number l.number) in
-        (all.0, all.1)
+        let sound = (sound_from_all s.head.arity s.head.nodes (used_in s)).1 (λ j below. (is_sound s).records j (omega (arith, used_long s))) in
+        let all = shaped_all s.head.arity s.head.nodes (is_sound s).few_nodes (used_in s) sound row.at there in
+        let (long, places, nodes) = all (row_at s row) (row_listed (rows_at s row.at) row.number l.number) in
+        (long, places)
 
     -- it has an entry for each place, blank at those that are not in its record's flag
     pub row_long : length (row_at s row) ≡ s.head.arity
@@ -108,7 +106,7 @@ module _ {s : SoundSet} where
           number = omega (arith, l.number, union_count s.head.arity (used_in s) row.at there is_union.1 is_union.2 is_union.0);
         };
         flag = is_union.4;
-        entries = sym (row_in (union_lists is_union) ∙ right_row (rows_at s r.left) (rows_at s r.right) row.number above);
+        entries = sym (row_in (union_lists is_union) ∙ get_or-append_right (rows_at s r.left) (rows_at s r.right) row.number [] above);
       }
 
     -- ---- the entry at a place of its flag
@@ -133,11 +131,11 @@ module _ {s : SoundSet} where
       pub is_product : IsProduct (used_in s) row.at r
       is_product = ⊎_elim (λ e. absurd (omega (arith, e.0))) (⊎_elim (λ e. absurd (omega (arith, e.0))) (λ e. e)) kinds
 
-      abbrev left_row : Listed
-      left_row = record { at = r.left; number = row.number / length (rows_at s r.right) }
+      abbrev left_of : Listed
+      left_of = record { at = r.left; number = row.number / length (rows_at s r.right) }
 
-      abbrev right_row_in : Listed
-      right_row_in = record { at = r.right; number = row.number % length (rows_at s r.right) }
+      abbrev right_of : Listed
+      right_of = record { at = r.right; number = row.number % length (rows_at s r.right) }
 
       parts : Factors (rows_at s r.left) (rows_at s r.right) row.number
       parts =
@@ -147,29 +145,29 @@ module _ {s : SoundSet} where
       pub some_right : 0 < length (rows_at s r.right)
       some_right = parts.some
 
-      left_listed : IsListed s left_row
+      left_listed : IsListed s left_of
       left_listed = record { used = omega (arith, l.used, is_product.1); number = parts.left }
 
-      right_listed : IsListed s right_row_in
+      right_listed : IsListed s right_of
       right_listed = record { used = omega (arith, l.used, is_product.2); number = parts.right }
 
   module _ {row : Listed} (l : IsListed s row) (product : (record_at s row.at).kind ≡ 3) (p : ℕ) (has : has_place (record_at s row.at).flag p ≡ true) where
-    as_long : length (row_at s (left_row l product)) ≡ length (row_at s (right_row_in l product))
+    as_long : length (row_at s (left_of l product)) ≡ length (row_at s (right_of l product))
     as_long = row_long (left_listed l product) ∙ sym (row_long (right_listed l product))
 
-    entry_merged : entry_at s row p ≡ get_or (merge (row_at s (left_row l product)) (row_at s (right_row_in l product))) p blank
+    entry_merged : entry_at s row p ≡ get_or (merge (row_at s (left_of l product)) (row_at s (right_of l product))) p blank
     entry_merged = entry_in l p has (product_lists l (is_product l product)) ∙ ap (λ (x : Row). get_or x p blank) (parts l product).row
 
-    pub goes_left_factor : has_place (record_at s (r l).left).flag p ≡ true → HasSameEntry s p row (left_row l product)
+    pub goes_left_factor : has_place (record_at s (r l).left).flag p ≡ true → HasSameEntry s p row (left_of l product)
     goes_left_factor in_left = record {
       listed = left_listed l product;
       has = in_left;
       same = sym (entry_merged
-          ∙ merge_at_left (row_at s (left_row l product)) (row_at s (right_row_in l product)) p as_long
+          ∙ merge_at_left (row_at s (left_of l product)) (row_at s (right_of l product)) p as_long
           (node_at (left_listed l product) p (inside l p has) in_left));
     }
 
-    pub goes_right_factor : has_place (record_at s (r l).left).flag p ≡ false → HasSameEntry s p row (right_row_in l product)
+    pub goes_right_factor : has_place (record_at s (r l).left).flag p ≡ false → HasSameEntry s p row (right_of l product)
     goes_right_factor not_left = record {
       listed = right_listed l product;
       has = ap (λ (c : Bool). c || has_place (record_at s (r l).right).flag p) (sym not_left)
@@ -177,6 +175,6 @@ module _ {s : SoundSet} where
           ∙ ap (λ (b : ℕ). has_place b p) (is_product l product).4
           ∙ has;
       same = sym (entry_merged
-          ∙ merge_at_right (row_at s (left_row l product)) (row_at s (right_row_in l product)) p as_long
+          ∙ merge_at_right (row_at s (left_of l product)) (row_at s (right_of l product)) p as_long
           (blank_at (left_listed l product) p (inside l p has) not_left));
     }

@@ -1,11 +1,12 @@
--- Rows by their numbers: that a row with a number is listed, those of the second of two lists, and those of a product.
-use mathlib.Core.List.{List, [], ◌++◌, ◌∷◌, map}
-use mathlib.Core.Path.{◌∙◌, ◌≡◌, ap, refl, sym}
-use Prim.Native.Nat.{◌%◌, ◌*◌, ◌+◌, ◌-◌, ◌/◌, ◌<◌, ◌≤◌, suc, zero, ℕ}
+-- Rows by their numbers: that a row with a number is listed, and those of a product.
+use mathlib.Core.List.{List, [], ◌∷◌, map}
+use mathlib.Core.Path.{◌∙◌, ◌≡◌, ap, sym}
+use Prim.Native.Nat.{◌%◌, ◌*◌, ◌+◌, ◌/◌, ◌<◌, suc, zero, ℕ}
 use native.Mathlib.Nat.{div-add-mod', div-lt_iff_lt-mul, mod-lt, mul-zero, suc-mul}
 use native.Mathlib.Omega.{arith}
 use lib.ListN.{get_or-append, get_or, length, length-map}
 use lib.Seq.{get_or-append-add}
+use Rattle.std.proofs.lemmas.List.{get_or-map}
 use Rattle.paper.specs.Lists.{◌∈◌}
 use Rattle.paper.specs.Row.{Row, merge, products}
 use Rattle.laws.proofs.Lists.{in_at}
@@ -13,18 +14,7 @@ use Rattle.laws.proofs.Lists.{in_at}
 pub row_listed : (rows : List Row) (n : ℕ) → n < length rows → get_or rows n [] ∈ rows
 row_listed rows n h = in_at [] rows n h
 
--- ---- a union's right rows
-pub right_row : (xs ys : List Row) (n : ℕ) → length xs ≤ n → get_or (xs ++ ys) n [] ≡ get_or ys (n - length xs) []
-right_row xs ys n h =
-    let sum : n ≡ length xs + (n - length xs) = omega arith in
-    ap (λ (m : ℕ). get_or (xs ++ ys) m []) sum ∙ get_or-append-add xs ys (n - length xs) []
-
 -- ---- a product's
-merged_row : (x : Row) (ys : List Row) (n : ℕ) → n < length ys → get_or (map (merge x) ys) n [] ≡ merge x (get_or ys n [])
-merged_row x [] n h = absurd (omega arith)
-merged_row x (y ∷ ys) zero h = refl
-merged_row x (y ∷ ys) (suc n) h = merged_row x ys n (omega arith)
-
 -- number i times the right rows and j: the left row i with the right row j
 pair_row : (xs ys : List Row) (i j : ℕ) → i < length xs → j < length ys
     → get_or (products xs ys) (i * length ys + j) [] ≡ merge (get_or xs i []) (get_or ys j [])
@@ -33,7 +23,7 @@ pair_row (x ∷ xs) ys zero j hi hj =
     let first : 0 * length ys + j ≡ j = omega arith in
     ap (λ (m : ℕ). get_or (products (x ∷ xs) ys) m []) first
     ∙ get_or-append (map (merge x) ys) (products xs ys) [] j (omega (arith, length-map ys (merge x)))
-    ∙ merged_row x ys j hj
+    ∙ get_or-map (merge x) ys j [] [] hj
 pair_row (x ∷ xs) ys (suc i) j hi hj =
     let later : suc i * length ys + j ≡ length (map (merge x) ys) + (i * length ys + j) = omega (arith, length-map ys (merge x), suc-mul i (length ys)) in
     ap (λ (m : ℕ). get_or (products (x ∷ xs) ys) m []) later

@@ -18,14 +18,14 @@ use Rattle.paper.specs.declared.Record.{Record}
 use Rattle.paper.specs.declared.Set.{Set}
 use Rattle.paper.specs.declared.Set.TheVariants as SetIs
 use Rattle.paper.specs.Questions.{count_of}
-use Rattle.paper.specs.Records.{blank_entry, listings, set_rows}
+use Rattle.paper.specs.Records.{listings, set_rows}
 use Rattle.laws.specs.QuestionCauses.{SetFits, Sound}
 use Rattle.laws.proofs.SoundTest.{sound_is}
 use Rattle.sound.specs.Counting.{rows_in_set}
 use Rattle.sound.specs.Face.{Weighs}
 use Rattle.sound.specs.Weights.{flag_in, rows_in, weights}
 use Rattle.sound.proofs.Answered.{sound_set, sound_work}
-use Rattle.sound.proofs.Cells.{flag_low, weights_at, weights_length}
+use Rattle.sound.proofs.Cells.{flag_low, used_length, weights_at, weights_length}
 use Rattle.sound.proofs.WeightParts.{flag_in_lem, rows_in_lem}
 use Rattle.row.specs.declared.set.SoundSet.{SoundSet}
 use Rattle.row.specs.Listed.{record_at, rows_at, used_in}
@@ -33,6 +33,9 @@ use Rattle.row.specs.Listed.{record_at, rows_at, used_in}
 module _ (s : SoundSet) where
   pub is_sound : Sound s.head s.table.now
   is_sound = sound_is s.head s.table.now s.sound
+
+  pub used_long : length (used_in s) ≡ s.head.used
+  used_long = used_length s.head s.table.now is_sound.used_there
 
   pub work_long : s.head.used ≤ length s.work.now
   work_long = omega (arith, length-take s.head.used s.work.now, ap length s.weighed, weights_length s.head s.table.now is_sound.used_there)
@@ -42,9 +45,6 @@ module _ (s : SoundSet) where
   root_flag root is = let fits : SetFits s.head (used_in s) (SetIs.Record root) = subst (SetFits s.head (used_in s)) is is_sound.set in fits.1
 
   module _ (i : ℕ) (below : i < s.head.used) where
-    pub entry_read : get_or s.table.now i blank_entry ≡ record_at s i
-    entry_read = sym (get_or-take s.head.used s.table.now i blank_entry below)
-
     cell : get_or s.work.now i 0 ≡ 16 * length (rows_at s i) + (record_at s i).flag
     cell =
         sym (get_or-take s.head.used s.work.now i 0 below)
@@ -74,7 +74,7 @@ rows_counted s = go s.head.set (is_sound s).set
     go (SetIs.Record root) fits = rows_are s root fits.0
 
 -- what `weigh` leaves of a sound set
-pub weighed_work : {h : Head} {table : List Record} {work work₁ : List ℕ} → Weighs h table work (Ok tt) work₁ → take h.used work₁ ≡ weights h table
-weighed_work {h} {table} {work} W =
+pub weights_left : {h : Head} {table : List Record} {work work₁ : List ℕ} → Weighs h table work (Ok tt) work₁ → take h.used work₁ ≡ weights h table
+weights_left {h} {table} {work} W =
     ap (take h.used) (sound_work W refl)
     ∙ take_at (weights h table) (drop (length (weights h table)) work) h.used (weights_length h table (sound_set W refl).used_there)

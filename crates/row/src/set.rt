@@ -74,8 +74,7 @@ impl SoundSet<'_> {
         ensures same { IsSameRow self.now row result }
         ensures lower { result.at < row.at }
     {
-        let union = self.record_at(row.at);
-        let left = union.left as usize;
+        let left = self.record_at(row.at).left as usize;
         let rows = self.rows_at(left);
         if row.number < rows {
             Listed {
@@ -83,8 +82,11 @@ impl SoundSet<'_> {
                 number: row.number,
             }
         } else {
+            // Read only here: with both operands at hand the compiler takes one of them without a
+            // branch, and then each step down a chain of unions waits for the one before.
+            let right = self.record_at(row.at).right as usize;
             Listed {
-                at: union.right as usize,
+                at: right,
                 number: row.number - rows,
             }
         }

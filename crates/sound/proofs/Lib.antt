@@ -10,5 +10,4 @@ pub mod Heads
 pub mod Answered
 pub mod Facing
 pub mod Questions
-pub mod Replying
 pub mod Counting

@@ -1,6 +1,5 @@
 pub mod Weights
 pub mod Questions
-pub mod Verdicts
 pub mod Face
 pub mod OneRecord
 pub mod Passing

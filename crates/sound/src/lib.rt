@@ -14,14 +14,10 @@ use paper::{Head, Record, Refusal, Set};
 mod head;
 mod pass;
 mod record;
-mod verdict;
 mod weight;
 
 // How a weight is read is for the questions too.
 pub use weight::{flag_in, rows_in};
-
-// So is the verdict.
-pub use verdict::{Ruling, Verdict, verdict_after, verdict_of};
 
 // Refusals 5 and 11, as the paper orders them, or the weights of the used records in the work. A caller
 // that is told `Ok` has to clear the work; after a refusal it is as the paper wants it.

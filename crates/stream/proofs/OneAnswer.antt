@@ -4,39 +4,29 @@ use mathlib.Core.Bool.{false, true, true≢false}
 use mathlib.Core.List.Memᴰ
 use mathlib.Core.List.{List, [], ◌++◌, ◌∷◌, head-eq_of_cons-eq, nil≢cons, tail-eq_of_cons-eq}
 use mathlib.Core.Logic.{⊎_elim}
-use mathlib.Core.Path.{◌∙◌, ◌≡◌, ap, refl, sym}
+use mathlib.Core.Path.{◌∙◌, ◌≡◌, ap, sym}
 use Prim.Native.Nat.{◌<◌, ◌≤◌, ℕ}
 use native.Mathlib.Omega.{arith}
 use lib.ListN.{drop, length}
-use Rattle.std.specs.Prelude.{Err, Ok, Result}
+use Rattle.std.specs.Prelude.{Result}
 use Rattle.paper.specs.declared.StreamRefusal.{StreamRefusal}
-use Rattle.paper.specs.Answers.{no_of_stream, says}
+use Rattle.paper.specs.Answers.{no_of_stream}
 use Rattle.paper.specs.Lists.{◌∈◌}
-use Rattle.paper.specs.Refusals.{Reply, answer, refused}
 use Rattle.paper.specs.Stream.{StreamRecord, records_of}
-use Rattle.laws.proofs.Answers.{stream_refusal_told, stream_refusal_of, told_apart}
+use Rattle.laws.proofs.Answers.{one_result, stream_refusal_of, stream_refusal_told}
 use Rattle.laws.proofs.Lists.{here}
 use Rattle.stream.specs.Positions.{NextRule, is_rule_for, record_at}
 use Rattle.stream.specs.Reading.{QueryFacts, TreeFacts, query_reply, says_query, says_tree, tree_reply}
 use Rattle.stream.proofs.Positions.{one_rest, records_here, records_none}
 
 -- ---- the readers
-module _ {A : Type 0} where
-  abbrev read_of : Reply A → Result A StreamRefusal
-  read_of (refused n) = Err (stream_refusal_of n)
-  read_of (answer a) = Ok a
-
-  read_told : (r : Result A StreamRefusal) → read_of (says no_of_stream r) ≡ r
-  read_told (Ok a) = refl
-  read_told (Err why) = ap Err (stream_refusal_told why)
-
 -- two results of `read_tree`
 pub one_tree : (input : List ℕ) (r s : Result TreeFacts StreamRefusal) → says_tree r ≡ tree_reply input → says_tree s ≡ tree_reply input → r ≡ s
-one_tree input r s a b = told_apart (says no_of_stream) read_of read_told r s (a ∙ sym b)
+one_tree input r s a b = one_result no_of_stream stream_refusal_of stream_refusal_told r s (a ∙ sym b)
 
 -- two results of `read_query`
 pub one_query : (input : List ℕ) (at : ℕ) (r s : Result QueryFacts StreamRefusal) → says_query r ≡ query_reply input at → says_query s ≡ query_reply input at → r ≡ s
-one_query input at r s a b = told_apart (says no_of_stream) read_of read_told r s (a ∙ sym b)
+one_query input at r s a b = one_result no_of_stream stream_refusal_of stream_refusal_told r s (a ∙ sym b)
 
 -- ---- the next rule
 module _ (kind label : ℕ) where

@@ -99,15 +99,15 @@ end_holds (t ∷ ts) n a = ap (λ z. cond t.1 z (refused t.0)) (end_holds ts n a
 
 -- behind a head with this arity and these states the tests are those behind it
 pub tests_behind_lem : (f : QueryFacts) (head : StreamRecord) → number head 0 ≡ f.arity → number head 1 ≡ f.states
-    → (at : ℕ) (before records : List StreamRecord)
-    → at_each query_tests at (head ∷ before) records ≡ at_each (tests_behind f) (behind at (head ∷ [])) before records
-tests_behind_lem f head a b at before [] = refl
-tests_behind_lem f head a b at before (r ∷ rs) =
-    ap₂ {C = List Test} (λ x y. x ++ y) (ap (λ Q. tests_at (behind at (head ∷ before)) (later_tests Q r)) query)
-    (tests_behind_lem f head a b at (before ++ (r ∷ [])) rs)
+    → (at : ℕ) (earlier records : List StreamRecord)
+    → at_each query_tests at (head ∷ earlier) records ≡ at_each (tests_behind f) (behind at (head ∷ [])) earlier records
+tests_behind_lem f head a b at earlier [] = refl
+tests_behind_lem f head a b at earlier (r ∷ rs) =
+    ap₂ {C = List Test} (λ x y. x ++ y) (ap (λ Q. tests_at (behind at (head ∷ earlier)) (later_tests Q r)) query)
+    (tests_behind_lem f head a b at (earlier ++ (r ∷ [])) rs)
   where
-    query : query_of (head ∷ before) ≡ query_with f before
-    query = λ i. record { arity = a i; states = b i; rules = rules_of before; accepting = accepting_of before }
+    query : query_of (head ∷ earlier) ≡ query_with f earlier
+    query = λ i. record { arity = a i; states = b i; rules = rules_of earlier; accepting = accepting_of earlier }
 
 module _ (input : List ℕ) (at : ℕ) where
   abbrev head : StreamRecord
@@ -153,9 +153,6 @@ module _ (input : List ℕ) (at : ℕ) where
     states : number head 1 ≡ facts.states
     states = ap (λ records. (query_of records).states) (sym (records_here input at inside))
 
-    records_inside : facts.rules ≤ length input
-    records_inside = omega (arith, two_numbers, whole_inside input at inside p.1.1.0)
-
     passed : query_reply input at ≡ later_reply input facts
     passed =
         with_head inside
@@ -175,9 +172,6 @@ module _ (input : List ℕ) (at : ℕ) where
   module _ (f : QueryFacts) (e : answer f ≡ head_reply input at) where
     read_head : Passes (tests_at at ((3, ltb at (length input)) ∷ head_tests head)) × (facts ≡ f)
     read_head = answered (tests_at at ((3, ltb at (length input)) ∷ head_tests head)) (sym e)
-
-    pub behind_head : f.rules ≤ length input
-    behind_head = subst (λ (g : QueryFacts). g.rules ≤ length input) read_head.1 (records_inside read_head.0)
 
     pub head_passed : later_reply input f ≡ query_reply input at
     head_passed = subst (λ g. later_reply input g ≡ query_reply input at) read_head.1 (sym (passed read_head.0))

@@ -1,5 +1,5 @@
--- One record behind the head, after those before it. First the tests that it fits, then the state after one that fits, then the two tests
--- that are left: that it is not a rule too many, and that it is new, by the table of what is said before.
+-- One record behind the head, after those before it. First the tests that it fits, then the two tests that are left: that it is not a rule too
+-- many, and that it is new, by the table of what is said before.
 use mathlib.Core.Bool.{Bool, ◌&&◌, ◌||◌, false, not, or_assoc, or_comm, or-false, true, true≢false}
 use mathlib.Core.List.Memᴰ
 use mathlib.Core.List.{List, [], ◌++◌, ◌∷◌, map}

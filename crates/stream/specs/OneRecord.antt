@@ -1,4 +1,5 @@
--- One record of the tree, or of the query, after those before it: the state that a loop carries, and what one step answers.
+-- One record by itself: whether it is the tree's, what is answered of a query's head, and whether a record behind the head fits. Then what
+-- is answered of all records behind a head.
 use Rattle.std.specs.Prelude.{Bool, ◌&&◌, List, [], ◌∷◌, ◌≡◌, ℕ, ◌<◌, leb, ltb, length, get_or, drop}
 use Rattle.paper.specs.Stream.{StreamRecord, whole, records_of, is_tree_kind}
 use Rattle.paper.specs.Query.{Query, rules_of, accepting_of}

@@ -29,12 +29,10 @@ fn branch_rule_fits(input: &[u8], head: QueryHead, at: usize) -> bool
     if input.len() < at + 1 + body_length(BRANCH_RULE) {
         return false;
     }
-    if !head.has_label_and_flag(input[at + 1], input[at + 2]) {
-        return false;
-    }
-    // Joined to the right, as the test of `paper` goes along the list of the states.
-    head.has_state(input[at + 3])
-        && (head.has_state(input[at + 4]) && head.has_state(input[at + 5]))
+    head.has_label_and_flag(input[at + 1], input[at + 2])
+        && head.has_state(input[at + 3])
+        && head.has_state(input[at + 4])
+        && head.has_state(input[at + 5])
 }
 
 // An accepting state that is whole.

@@ -1,6 +1,6 @@
 // The head of the query. First what is answered of a query, then the reading of its head, which is
 // refused 3 or gives the arity and the states by which the records behind it are judged.
-ghost use Rattle.std.specs.Prelude.{◌&&◌, ◌≡◌, ◌^◌, ◌≤◌, leb, ltb};
+ghost use Rattle.std.specs.Prelude.{◌&&◌, ◌≡◌, ◌^◌, ◌≤◌, leb, ltb, length, IfOk};
 ghost use Rattle.paper.specs.Answers.{no_of_stream, says, told};
 
 use crate::lengths::body_length;
@@ -17,8 +17,9 @@ pub struct QueryFacts {
 }
 
 // The numbers of a head that was read, which are in range. They are in `QueryFacts` without that, as
-// the definitions have them of every input.
-#[derive(Clone, Copy)]
+// the definitions have them of every input. The input stays beside it: here as elsewhere in the room a
+// record is told by the input and a position.
+#[derive(Clone, Copy, Debug, PartialEq, Eq)]
 pub(crate) struct QueryHead {
     pub(crate) facts: QueryFacts,
     ghost few_places: { facts.arity ≤ 4 },
@@ -32,7 +33,8 @@ impl QueryHead {
     // Every fault of a head is refused 3, so the order of the tests is free but for this: a byte is
     // read behind the test that it is there.
     pub(crate) fn read(input: &[u8], at: usize) -> Result<Self, StreamRefusal>
-        ensures { told (λ h. h.facts) (says no_of_stream result) ≡ head_reply input.now at }
+        ensures answer { told (λ h. h.facts) (says no_of_stream result) ≡ head_reply input.now at }
+        ensures inside { IfOk result (λ h. h.facts.rules ≤ length input.now) }
     {
         // A tree with no query.
         if input.get(at) != Some(&QUERY_HEAD) {

@@ -1,6 +1,6 @@
 // Reading the input stream of document 01, one file a subject. The two readers answer with refusals
 // 1 to 4, or with the numbers that a build goes on with (specs/Reading.antt). `list_rules`
-// lists the rules once, and the readers of the lists find them (specs/RuleLists.antt). What is answered for
+// lists the rules once, and the readers of the lists find them (specs/RuleLists.antt). What is asked of
 // one record in between stands in specs/OneRecord.antt.
 #![tactic(auto)]
 

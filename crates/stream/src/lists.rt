@@ -37,7 +37,7 @@ const MOST_BYTES: usize = MOST_RULES * LONGEST_RULE + MOST_STATES * STATE_RECORD
 pub const LIST_NUMBERS: usize = FIRST_CELL + MOST_BYTES / SHORTEST_RULE;
 
 // The highest position that a number of the lists can tell: the end of an input is one.
-const HIGHEST_POSITION: usize = 65535;
+const HIGHEST_POSITION: usize = u16::MAX as usize;
 
 // The number of the symbol of a kind and a label; none where the kind is no rule's, or the label one that
 // no node has.
@@ -125,7 +125,7 @@ fn link_rules(input: &[u8], from: usize, lists: &mut [u16])
 {
     let mut last = start_lists(lists, input.len() as u16);
     let mut accepting: u16 = 0;
-    // Ends with the input: a turn steps over a kind at least.
+    // A `while`, as records differ in length. It ends with the input: a turn steps over a kind at least.
     let mut at = from;
     while at < input.len() {
         if let Some(symbol) = symbol_at(input, at) {
@@ -160,7 +160,7 @@ fn number_in(lists: &[u16], cell: usize) -> usize
 }
 
 // The first rule of a kind and a label that rules and nodes have, and the end of the input where there is
-// none.
+// none: that is what the lists keep, in numbers of 16 bits, and a walk over rules ends where the input does.
 pub fn first_rule(lists: &[u16], kind: u8, label: u8) -> usize
     ensures { TellsFirst lists.now kind label result }
 {

@@ -22,8 +22,8 @@ fn each_record(input: &[u8], head: QueryHead, said: &mut [u64]) -> Result<QueryF
 {
     let mut at = head.facts.rules;
     let mut rules = 0;
-    // Ends with the input, or by the first record at fault. A turn steps over one record that is
-    // whole, so never behind the end.
+    // A `while`, as records differ in length. It ends with the input, or by the first record at fault:
+    // a turn steps over one record that is whole, so never behind the end.
     while at < input.len() {
         // 3 before 4: whether a record fits is asked before what the earlier ones say.
         if !record_fits(input, head, at) {
@@ -67,11 +67,12 @@ fn with_table<const WORDS: usize>(
     each_record(input, head, &mut said)
 }
 
-// All records behind the head, with the least table that does.
-fn later_records(input: &[u8], head: QueryHead) -> Result<QueryFacts, StreamRefusal>
-    requires { head.facts.rules ≤ length input.now }
-    ensures { says_query result ≡ later_reply input.now head.facts }
+// All of the query whose head stands at a position: refusals 3 and 4.
+pub fn read_query(input: &[u8], at: usize) -> Result<QueryFacts, StreamRefusal>
+    ensures { says_query result ≡ query_reply input.now at }
 {
+    let head = QueryHead::read(input, at)?;
+    // The least table that does.
     let keys = head.number_of_keys();
     if keys <= WORD_BITS * SMALL_TABLE {
         return with_table::<SMALL_TABLE>(input, head);
@@ -80,12 +81,4 @@ fn later_records(input: &[u8], head: QueryHead) -> Result<QueryFacts, StreamRefu
         return with_table::<MIDDLE_TABLE>(input, head);
     }
     with_table::<LARGE_TABLE>(input, head)
-}
-
-// All of the query whose head stands at a position: refusals 3 and 4.
-pub fn read_query(input: &[u8], at: usize) -> Result<QueryFacts, StreamRefusal>
-    ensures { says_query result ≡ query_reply input.now at }
-{
-    let head = QueryHead::read(input, at)?;
-    later_records(input, head)
 }

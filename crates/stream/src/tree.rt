@@ -24,17 +24,17 @@ fn is_tree_record(input: &[u8], at: usize) -> bool
     matches!(input.get(at), Some(&(LEAF | BRANCH)))
 }
 
-// All of the tree: refusals 1 and 2.
+// All of the tree: refusals 1 and 2. How many subtrees are unjoined is enough for them: which ones a
+// branch joins decides none. The loop is a `while`, as a record is as long as its kind says. It ends by
+// the first kind that is not the tree's, with the input, or by the first record at fault: what comes
+// later cannot change the refusal.
 pub fn read_tree(input: &[u8]) -> Result<TreeFacts, StreamRefusal>
     ensures { says_tree result ≡ tree_reply input.now }
 {
     let mut at = 0;
     let mut nodes = 0;
-    // How many subtrees are unjoined is enough: which ones a branch joins decides no refusal.
     let mut unjoined = 0;
     let mut most = 0;
-    // Ends by the first kind that is not the tree's, with the input, or by the first record at
-    // fault: what comes later cannot change the refusal. A turn steps over one whole record.
     while is_tree_record(input, at) {
         // 2 before 1: the 4,096th tree kind is seen before its body.
         if MOST_NODES <= nodes {
@@ -45,27 +45,25 @@ pub fn read_tree(input: &[u8]) -> Result<TreeFacts, StreamRefusal>
         if input.len() < next || HIGHEST_LABEL < input[at + 1] {
             return Err(StreamRefusal::Tree(at));
         }
+        // A leaf is one subtree more. A branch makes one of the last two.
         if input[at] == LEAF {
-            // Only with a leaf can the most grow.
             unjoined += 1;
             most = most.max(unjoined);
         } else if unjoined < 2 {
             return Err(StreamRefusal::Tree(at));
         } else {
-            // A branch makes one subtree of the last two.
             unjoined -= 1;
         }
         nodes += 1;
         at = next;
     }
     // With no node there is no subtree, so one subtree at the end is all that is asked here.
-    if unjoined == 1 {
-        Ok(TreeFacts {
-            end: at,
-            nodes,
-            most,
-        })
-    } else {
-        Err(StreamRefusal::Tree(at))
+    if unjoined != 1 {
+        return Err(StreamRefusal::Tree(at));
     }
+    Ok(TreeFacts {
+        end: at,
+        nodes,
+        most,
+    })
 }

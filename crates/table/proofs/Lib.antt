@@ -1,3 +1,4 @@
 pub mod Copies
 pub mod Batches
 pub mod Sets
+pub mod OneMade

@@ -113,7 +113,7 @@ pub extern "C" fn tarn_fix(
         work.new target.new fixed.new }
 {
     let answer = fix::fix(head_of(head), source, work, place, node, target);
-    tell(answer.map(numbers_of), fixed)
+    tell_head(answer, fixed)
 }
 
 // Bracketed text to tree records, into `tree`; `bytes` is how many bytes they have. What is behind them stays.
@@ -210,6 +210,13 @@ fn tell<A: Copy>(answered: Result<A, Refusal>, out: &mut A) -> u8
         }
         Err(why) => why.number(),
     }
+}
+
+// The same of a new set, whose head goes as its numbers.
+fn tell_head(answered: Result<Head, Refusal>, head: &mut [u16; HEAD_NUMBERS]) -> u8
+    ensures { Tells (told head_numbers (says no_of answered)) head.old result head.new }
+{
+    tell(answered.map(numbers_of), head)
 }
 
 // The same of a build, whose refusal may have a position. Nothing is read and nothing is written for the others.

@@ -1,4 +1,4 @@
--- The judging pass over bytes accepts exactly the images that are read, and counts their written nodes.
+-- The judging pass over bytes accepts exactly the images that are read.
 use mathlib.Core.Path.{◌≡◌, refl, sym, ◌∙◌, ap, subst}
 use mathlib.Core.Bool.{Bool, true, false, cond, ◌&&◌, false≢true}
 use mathlib.Core.List.{List, [], ◌∷◌}
@@ -9,9 +9,12 @@ use borrow.Author.Tests.{eqb-true, leb-true, le-leb}
 use lib.Dec.{eqb, leb}
 use lib.ListN.{length}
 use Rattle.laws.proofs.Lists.{both_true}
-use Rattle.paper.specs.WrittenTree.{Forest, nil, tree, WrittenTree, forest_of, forest_nodes, written_nodes}
+use Rattle.paper.specs.WrittenTree.{Forest, nil, tree, WrittenTree, forest_nodes, written_nodes}
+use Rattle.paper.specs.Conversions.{Images}
+use Rattle.paper.specs.Image.{image_bytes}
 use Rattle.writings.specs.ReadImage.{joined, with_record, onward, joined_from, one_tree, read_image}
 use Rattle.text.specs.JudgeImage.{Unjoined, nothing_read, faulty, with_pad, with_branch, record_judged, image_judged, accepts_image}
+use Rattle.writings.proofs.Images.{image_read}
 use Rattle.writings.proofs.Texts.{one_root_read, one_root_found}
 use Rattle.text.proofs.Endings.{all_nodes}
 
@@ -93,20 +96,22 @@ bytes_agree (k ∷ l ∷ t) fs = go (with_record k l fs) (record_agrees k l fs) 
     go (some gs) h ih = subst (λ u. Agrees (image_judged u t) (joined_from gs t)) (sym h) (ih gs)
 
 -- ---- the whole image
--- what is read is accepted, with its number of written nodes
-pub image_accepted : (t : List ℕ) (w : WrittenTree) → read_image t ≡ some w
-    → (accepts_image (image_judged nothing_read t) ≡ true) × ((image_judged nothing_read t).nodes ≡ written_nodes w)
+-- what is read is accepted
+image_accepted : (t : List ℕ) (w : WrittenTree) → read_image t ≡ some w → accepts_image (image_judged nothing_read t) ≡ true
 image_accepted t w e = go (joined_from [] t) (bytes_agree t []) e
   where
-    go : (o : Option (List Forest)) → Agrees (image_judged nothing_read t) o → one_tree o ≡ some w
-        → (accepts_image (image_judged nothing_read t) ≡ true) × ((image_judged nothing_read t).nodes ≡ written_nodes w)
+    go : (o : Option (List Forest)) → Agrees (image_judged nothing_read t) o → one_tree o ≡ some w → accepts_image (image_judged nothing_read t) ≡ true
     go none h e' = absurd (none-ne-some w e')
     go (some []) h e' = absurd (none-ne-some w e')
     go (some (f ∷ [])) h e' =
         let (one, few) = one_root_read f w e' in
-        let z : image_judged nothing_read t ≡ numbers_of (forest_of w ∷ []) = h ∙ ap (λ x. numbers_of (x ∷ [])) one in
-        (ap accepts_image z ∙ le-leb (written_nodes w + 0) 2047 (omega arith), ap (λ u. u.nodes) z ∙ omega arith)
+        ap accepts_image (h ∙ ap (λ x. numbers_of (x ∷ [])) one) ∙ le-leb (written_nodes w + 0) 2047 (omega arith)
     go (some (f ∷ g ∷ fs)) h e' = absurd (none-ne-some w e')
+
+-- so what is not accepted is no image
+pub no_image : (t : List ℕ) → accepts_image (image_judged nothing_read t) ≡ false → (w : WrittenTree) → Images t w → ⊥
+no_image t e w I =
+    false≢true (sym e ∙ ap (λ x. accepts_image (image_judged nothing_read x)) (sym I.image) ∙ image_accepted (image_bytes w) w (image_read w I.allowed))
 
 -- and what is accepted is read
 one_read : (fs : List Forest) → eqb (length fs) 1 ≡ true → is_single fs ≡ true → all_nodes fs ≤ 2047 → (w : WrittenTree) × (one_tree (some fs) ≡ some w)

@@ -6,5 +6,4 @@ pub mod WrittenTexts
 pub mod ImageRecords
 pub mod WritingTexts
 pub mod Copying
-pub mod TextReplies
 pub mod TreeReplies

@@ -2,7 +2,7 @@
 use mathlib.Core.Bool.{cond, true}
 use mathlib.Core.List.{List, [], ◌++◌, ◌∷◌, append_assoc, append-nil, reverse, reverse-append}
 use mathlib.Core.Path.{◌∙◌, ◌≡◌, ap, refl, subst, sym}
-use Prim.Native.Nat.{◌+◌, ◌-◌, ◌<◌, ◌≤◌, suc, ℕ}
+use Prim.Native.Nat.{◌+◌, ◌-◌, ◌≤◌, suc, ℕ}
 use native.Mathlib.Omega.{arith}
 use borrow.Author.Tests.{eq-eqb, ne_eqb}
 use lib.ListN.{drop, get_or, length, length-append, take}
@@ -31,7 +31,7 @@ length-missing : (ws : List Waiting) → length (missing ws).0 ≤ length ws
 length-missing [] = omega arith
 length-missing (Others l ∷ ws) = omega arith
 length-missing (Children l b ∷ ws) = omega (arith, length-completed ws)
-length-missing (Inside l ∷ ws) = omega (arith, length-completed ws)
+length-missing (Inside l ∷ ws) = omega arith
 
 length-met : (l : ℕ) (ws : List Waiting) → length (met l ws).0 ≡ suc (length ws)
 length-met l [] = refl
@@ -137,9 +137,6 @@ module _ {image rest : List ℕ} (w : Writing) (S : SoFar image rest w) (two : 2
 
     pub can_meet : Fits (met label w.waiting) w.text
     can_meet = subst (λ s. Fits s w.text) is_met fits
-
-    pub met_room : length w.waiting < 2047
-    met_room = omega (arith, S.few, more_branches)
 
     pub met_more : SoFar image before (after (met label w.waiting) w)
     met_more =

@@ -1,7 +1,11 @@
--- The room that there always is for the labels and the image.
+-- What the code keeps of the tokens, and the room that there always is for the labels and the image.
 use Rattle.std.specs.Prelude.{Bool, cond, ℕ, ◌+◌, ◌*◌, ◌≤◌, length}
 use Rattle.text.specs.Bounds.{most_written}
 use Rattle.text.specs.Pass.{Kept}
+use Rattle.text.specs.declared.tokens.Kept.TheInside.{Inside}
+
+abbrev pub kept_in : Inside → Kept
+kept_in k = record { may = k.may_open; depth = k.depth; nodes = k.nodes; waiting = k.waiting; image = k.image }
 
 abbrev pub one : Bool → ℕ
 one b = cond b 1 0

@@ -20,12 +20,13 @@ completed (Others l ∷ ws) = (Children l true ∷ ws, [])
 completed (Children l b ∷ ws) = (Children l true ∷ ws, [])
 completed (Inside l ∷ ws) = ((completed ws).0, (completed ws).1 ++ (decimal l ++ (40 ∷ [])))
 
--- a pad: the last node that waits has no others, or it has no children and is complete. (In an image it is not inside its brackets.)
+-- a pad: the last node that waits has no others, or it has no children and is complete. (In an image no node that waits is inside its
+-- brackets then.)
 abbrev pub missing : List Waiting → List Waiting × List ℕ
 missing [] = ([], [])
 missing (Others l ∷ ws) = (Children l false ∷ ws, [])
 missing (Children l b ∷ ws) = ((completed ws).0, (completed ws).1 ++ childless l b)
-missing (Inside l ∷ ws) = ((completed ws).0, (completed ws).1 ++ childless l true)
+missing (Inside l ∷ ws) = (ws, [])
 
 -- a branch: the root, the last of the others of the last node that waits, or of its children, behind which its brackets are closed. (In
 -- an image that node is not inside its brackets.)

@@ -4,7 +4,7 @@ ghost use Rattle.std.specs.Prelude.{true, ◌++◌, ◌+◌, ◌≡◌, ◌<◌,
 ghost use Rattle.paper.specs.BracketedText.{decimal};
 ghost use Rattle.text.specs.Bounds.{longest_text, most_written};
 ghost use Rattle.text.specs.JudgeImage.{accepts_image, image_judged, nothing_read};
-ghost use Rattle.text.specs.WriteText.{childless, completed, met, missing};
+ghost use Rattle.text.specs.WriteText.{completed, met, missing};
 ghost use Rattle.text.specs.Writing.{Fits, WritesText, after};
 
 use crate::bytes::BASE;
@@ -15,7 +15,7 @@ use paper::limits::MOST_WRITTEN_NODES;
 // A written node is at most two digits and two brackets, or a blank instead of these.
 const LONGEST_NODE: usize = 4;
 
-pub(crate) const LONGEST_TEXT: usize = MOST_WRITTEN_NODES * LONGEST_NODE;
+const LONGEST_TEXT: usize = MOST_WRITTEN_NODES * LONGEST_NODE;
 
 // A node, by its label, and what of it is still to come.
 #[derive(Clone, Copy, Debug, PartialEq, Eq)]
@@ -68,51 +68,40 @@ impl Writing {
         }
     }
 
-    // A node without children: its label, and a blank behind it if it has others.
-    fn put_childless(&mut self, label: u8, others: bool)
-        requires { length (childless label others) + length self.old.text ≤ longest_text }
-        ensures waiting { self.new.waiting ≡ self.old.waiting }
-        ensures text { self.new.text ≡ childless label others ++ self.old.text }
-    {
-        if others {
-            self.text.push(b' ');
-        }
-        self.put_label(label);
-    }
-
     // A pad: the last node that waits has no others, or it has no children and is complete.
-    fn miss(&mut self)
+    fn read_pad(&mut self)
         requires { Fits (missing self.old.waiting) self.old.text }
         ensures { self.new ≡ after (missing self.old.waiting) self.old }
     {
         match self.waiting.pop() {
-            None => {}
             Some(Waiting::Others(label)) => self.waiting.push(Waiting::Children(label, false)),
             Some(Waiting::Children(label, others)) => {
-                self.put_childless(label, others);
+                if others {
+                    self.text.push(b' ');
+                }
+                self.put_label(label);
                 self.complete();
             }
-            Some(Waiting::Inside(label)) => {
-                self.put_childless(label, true);
-                self.complete();
-            }
+            // In an image this node is not inside its brackets.
+            Some(Waiting::Inside(_)) | None => {}
         }
     }
 
     // A branch: the last of the others of the last node that waits, or the last of its children, behind which its brackets are closed. The
     // new node waits then.
-    fn meet(&mut self, label: u8)
+    fn read_branch(&mut self, label: u8)
         requires room { length self.old.waiting < most_written }
         requires fits { Fits (met label self.old.waiting) self.old.text }
         ensures { self.new ≡ after (met label self.old.waiting) self.old }
     {
         match self.waiting.pop() {
-            None => {}
             Some(Waiting::Children(parent, _)) => {
                 self.text.push(b')');
                 self.waiting.push(Waiting::Inside(parent));
             }
             Some(node) => self.waiting.push(node),
+            // The root.
+            None => {}
         }
         self.waiting.push(Waiting::Others(label));
     }
@@ -131,9 +120,9 @@ pub(crate) fn write_text(tree: &[u8]) -> Stack<u8, LONGEST_TEXT>
     // Ends before the first record: a turn goes over one.
     while let [before @ .., kind, label] = rest {
         if *kind == LEAF {
-            writing.miss();
+            writing.read_pad();
         } else {
-            writing.meet(*label);
+            writing.read_branch(*label);
         }
         rest = before;
     }

@@ -53,9 +53,10 @@ impl Image {
         requires { length self.old + 2 ≤ longest_image }
         ensures { self.new ≡ self.old ++ kind ∷ label ∷ [] }
     {
-        self.bytes[self.length] = kind;
-        self.bytes[self.length + 1] = label;
-        self.length += RECORD;
+        let end = self.length;
+        self.bytes[end] = kind;
+        self.bytes[end + 1] = label;
+        self.length = end + RECORD;
     }
 
     // The pad of a number that turns out to have no brackets.

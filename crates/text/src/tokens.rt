@@ -40,13 +40,14 @@ pub(crate) struct Kept {
 
 impl Model for Kept {
     ghost use Rattle.text.specs.Pass.{Kept as TheKept};
-    ghost use Rattle.text.specs.Room.{Room};
 
     ghost Value = { TheKept };
 
-    ghost view = { λ k. record { may = k.may_open; depth = k.depth; nodes = k.nodes; waiting = k.waiting; image = k.image } };
+    ghost use Rattle.text.specs.Room.{Room, kept_in};
 
-    ghost invariant = { λ k. Room (record { may = k.may_open; depth = k.depth; nodes = k.nodes; waiting = k.waiting; image = k.image }) };
+    ghost view = { kept_in };
+
+    ghost invariant = { λ k. Room (kept_in k) };
 }
 
 impl Kept {

@@ -12,8 +12,8 @@ returns-in-Ok c =
     let a = c.args in
     let b = c.in_ok-state.ensures in
     let cleared = filled_first c.drive-made.new.work c.fill.new.self c.drive-made.new.state.asked
-        (omega (arith, enough _ _ _ _ _ _ b c.in-Ok.ensures c.begin.auto.work, c.begin.auto.work, c.drive-made.auto.work))
-        (c.fill.ensures.after (λ y e. e)) in
+    (omega (arith, enough _ _ _ _ _ _ b c.in-Ok.ensures c.begin.auto.work, c.begin.auto.work, c.drive-made.auto.work))
+    (c.fill.ensures.after (λ y e. e)) in
     rw (c.head.ensures, cleared) (whole_face _ _ _ _ _ _ b c.in-Ok.ensures c.begin.auto.work).1
 
 pub returns-in-Err : goal.returns-in-Err
@@ -21,7 +21,7 @@ returns-in-Err c =
     let a = c.args in
     let b = c.in_ok-state.ensures in
     let cleared = filled_first c.drive-made.new.work c.fill.new.self c.drive-made.new.state.asked
-        (omega (arith, enough _ _ _ _ _ _ b c.in-Err.ensures c.begin.auto.work, c.begin.auto.work, c.drive-made.auto.work))
-        (c.fill.ensures.after (λ y e. e)) in
+    (omega (arith, enough _ _ _ _ _ _ b c.in-Err.ensures c.begin.auto.work, c.begin.auto.work, c.drive-made.auto.work))
+    (c.fill.ensures.after (λ y e. e)) in
     rw (c.into.ensures, cleared)
     (over_face _ _ _ _ _ _ b c.in-Err.ensures c.begin.auto.work c.drive-made.auto.table c.blank.ensures)

@@ -4,7 +4,7 @@ use Rattle.std.proofs.lemmas.Result.{err_from_is_err_and}
 use Rattle.paper.specs.Questions.{is_listed}
 use Rattle.paper.specs.Records.{listing}
 use Rattle.sound.specs.Questions.{tests_of}
-use Rattle.sound.proofs.Answered.{refused_reply, refused_work, sound_length, sound_room, sound_set}
+use Rattle.sound.proofs.Answered.{refused_reply, refused_work, sound_set}
 use Rattle.sound.proofs.Questions.{own_reply, own_work}
 use Rattle.member.specs.Answer.{own_tests}
 use Rattle.member.proofs.member.Goals as goal
@@ -18,10 +18,8 @@ returns-in_err-weigh c =
     let p = err_from_is_err_and c.from_residual.result c.from_residual.ensures.1 in
     rw (p.1, p.2) record { answer = sym (refused_reply W refl tests listed); worked = refused_work W refl tests listed }
 
-pub answer-answered-requires : goal.answer-answered-requires
-answer-answered-requires c =
-    let W = c.in_ok-weigh.ensures in
-    record { sound = sound_set W refl; room = omega (arith, sound_room W refl, sound_length W refl) }
+pub answer-answered-requires-clause-sound : goal.answer-answered-requires-clause-sound
+answer-answered-requires-clause-sound c = sound_set c.in_ok-weigh.ensures refl
 
 pub returns : goal.returns
 returns c =

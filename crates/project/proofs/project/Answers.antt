@@ -5,7 +5,7 @@ use Rattle.paper.specs.Answers.{told}
 use Rattle.paper.specs.Questions.{marks_of}
 use Rattle.paper.specs.Refusals.{output_after}
 use Rattle.sound.specs.Questions.{tests_of}
-use Rattle.sound.proofs.Answered.{refused_reply, refused_work, sound_length, sound_room, sound_set}
+use Rattle.sound.proofs.Answered.{refused_reply, refused_work, sound_set}
 use Rattle.sound.proofs.Questions.{own_reply, own_work}
 use Rattle.project.specs.Answer.{own_tests}
 use Rattle.project.proofs.project.Goals as goal
@@ -24,10 +24,8 @@ returns-in_err-weigh c =
       written = ap (λ q. output_after q a.out.now) reply;
     }
 
-pub answer-answered-requires : goal.answer-answered-requires
-answer-answered-requires c =
-    let W = c.in_ok-weigh.ensures in
-    record { sound = sound_set W refl; room = omega (arith, sound_room W refl, sound_length W refl) }
+pub answer-answered-requires-clause-sound : goal.answer-answered-requires-clause-sound
+answer-answered-requires-clause-sound c = sound_set c.in_ok-weigh.ensures refl
 
 pub returns : goal.returns
 returns c =

@@ -7,7 +7,7 @@ use Rattle.paper.specs.Questions.{row_numbered}
 use Rattle.sound.specs.Questions.{tests_of}
 use Rattle.sound.proofs.Answered.{refused_reply, refused_work, sound_passes}
 use Rattle.row.specs.Found.{own_tests}
-use Rattle.row.proofs.SoundSets.{weighed_work}
+use Rattle.row.proofs.SoundSets.{weights_left}
 use Rattle.row.proofs.row.Goals as goal
 
 pub returns-in_err-weigh : goal.returns-in_err-weigh
@@ -26,4 +26,4 @@ returns-in_err-weigh c =
 pub invariant_of-set : goal.invariant_of-set
 invariant_of-set c =
     let W = c.in_ok-weigh.ensures in
-    record { sound = (sound_passes W refl).1.0; weighed = weighed_work W }
+    record { sound = (sound_passes W refl).1.0; weighed = weights_left W }

@@ -3,7 +3,7 @@ use Rattle.std.proofs.Common.{◌∙◌, refl, sym}
 use Rattle.paper.specs.CanonicalText.{text_of}
 use Rattle.paper.specs.Conversions.{Images}
 use Rattle.text.proofs.Copying.{converted, unconverted}
-use Rattle.text.proofs.TextReplies.{no_image}
+use Rattle.text.proofs.JudgedImages.{no_image}
 use Rattle.text.proofs.tree_to_text.Goals as goal
 
 pub returns-then-not-is_image : goal.returns-then-not-is_image

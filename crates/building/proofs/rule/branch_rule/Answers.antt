@@ -4,8 +4,8 @@ use Rattle.building.proofs.Turns.{beside_few, beside_room, left_apart_first, lef
 use Rattle.building.proofs.Turns.{left_turn, right_none, size_small, with_left}
 use Rattle.building.proofs.rule.branch_rule.Goals as goal
 
-pub returns-then-work-right-eq0 : goal.returns-then-work-right-eq0
-returns-then-work-right-eq0 c = right_none c.requires.room.0 c.if-work-right-eq0.true
+pub returns-then-work-rule-eq0 : goal.returns-then-work-rule-eq0
+returns-then-work-rule-eq0 c = right_none c.requires.room.0 c.if-work-rule-eq0.true
 
 pub free_marks-marks-requires : goal.free_marks-marks-requires
 free_marks-marks-requires c =
@@ -24,8 +24,8 @@ beside-count-requires c =
     let s = left_turn r free c.loop-marks.invariant c.loop-marks-test.true in
     record {
       room = (beside_room s, c.requires.room.1);
-      b1_lt_size = (s.left_flag, left_apart_first r free c.loop-marks.invariant c.loop-marks-test.true);
-      b1_bound = beside_few s c.requires.k_le_waiting_records;
+      left_flag_lt_size = (s.left_flag, left_apart_first r free c.loop-marks.invariant c.loop-marks-test.true);
+      left_flag_bound = beside_few s c.requires.k_le_waiting_records;
     }
 
 pub loop-marks-preserved : goal.loop-marks-preserved

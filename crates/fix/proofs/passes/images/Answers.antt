@@ -1,7 +1,7 @@
 -- `images`: a record asks for no more than holds before it (`OneRecord`), and keeps that (`Imaging`).
 use Rattle.std.proofs.Common.{[], ◌∷◌, ◌∙◌, arith, length-append, sym, take}
 use Rattle.fix.specs.Passes.{new_records}
-use Rattle.fix.proofs.Imaging.{ended, few, halted, onward}
+use Rattle.fix.proofs.Imaging.{few, halted, onward}
 use Rattle.fix.proofs.OneRecord.{operands_there}
 use Rattle.fix.proofs.passes.images.Goals.{in-Standing, in-New}
 use Rattle.fix.proofs.passes.images.Goals as goal
@@ -27,8 +27,8 @@ loop-at-preserved c =
     let made = new_records c.args.fixing (take c.loop-at.at c.args.used.now) in
     let next = onward now c.loop-at-test.true once c.image.result makes in
     elim c.match-image.branch [
-      in-Standing w ↦ rw (w.made-is, w.work-is) (next _ (rw w.in-Standing.is w.number_of.ensures) _ (rw w.in-Standing.is now.made))
-    | in-New w ↦
-        rw (w.made-is, w.work-is)
-        (next _ (rw w.in-New.is (omega (arith, now.made))) _ (rw w.in-New.is (omega (arith, now.made, length-append made (w.in-New.field-0 ∷ [])))))
+      | in-Standing w ↦ rw (w.made-is, w.work-is) (next _ (rw w.in-Standing.is w.number_of.ensures) _ (rw w.in-Standing.is now.made))
+      | in-New w ↦
+          rw (w.made-is, w.work-is)
+          (next _ (rw w.in-New.is (omega (arith, now.made))) _ (rw w.in-New.is (omega (arith, now.made, length-append made (w.in-New.field-0 ∷ [])))))
     ]

@@ -1,7 +1,7 @@
 -- `records`: a record asks for no more than holds before it (`OneRecord`), and keeps that (`Recording`).
-use Rattle.std.proofs.Common.{◌∙◌, arith, sym}
+use Rattle.std.proofs.Common.{arith}
 use Rattle.fix.proofs.OneRecord.{operands_there}
-use Rattle.fix.proofs.Recording.{ended, few, has, recorded, skipped, stood}
+use Rattle.fix.proofs.Recording.{few, has, recorded, skipped, stood}
 use Rattle.fix.proofs.passes.records.Goals.{then-work-at+in-New, then-work-at+in_default, else-work-at}
 use Rattle.fix.proofs.passes.records.Goals as goal
 
@@ -24,11 +24,11 @@ loop-at-preserved c =
     let now = c.loop-at.invariant in
     let below = c.loop-at-test.true in
     elim c.if-work-at.branch [
-      then-work-at+in-New w ↦
+      | then-work-at+in-New w ↦
           rw (w.made-is, w.target-is)
           (recorded q.fitting q.numbered now below w.image.result (rw w.operands-left.ensures at w.image.ensures) _ w.in-New.is q.entries)
-    | then-work-at+in_default w ↦
-        rw (w.made-is, w.target-is)
-        (stood q.fitting q.numbered now below w.image.result (rw w.operands-left.ensures at w.image.ensures) _ w.in_default.is)
-    | else-work-at w ↦ rw (w.made-is, w.target-is) (skipped q.fitting q.numbered now below w.if-work-at.false)
+      | then-work-at+in_default w ↦
+          rw (w.made-is, w.target-is)
+          (stood q.fitting q.numbered now below w.image.result (rw w.operands-left.ensures at w.image.ensures) _ w.in_default.is)
+      | else-work-at w ↦ rw (w.made-is, w.target-is) (skipped q.fitting q.numbered now below w.if-work-at.false)
     ]

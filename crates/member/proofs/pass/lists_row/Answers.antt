@@ -1,16 +1,9 @@
 -- `lists_row`: unit lists the row; else the cells are right before each turn, and the root's at the end (`Passing`).
-use Rattle.std.proofs.Common.{arith}
-use Rattle.member.proofs.Passing.{finds, finds_unit, onward, passed_long, passing_first, reads, root_inside}
+use Rattle.member.proofs.Passing.{finds, finds_unit, onward, reads}
 use Rattle.member.proofs.pass.lists_row.Goals as goal
 
 pub returns-in-Unit : goal.returns-in-Unit
 returns-in-Unit c = finds_unit c.requires c.in-Unit.is
-
-pub slice_bounds-entry-items-end : goal.slice_bounds-entry-items-end
-slice_bounds-entry-items-end c = passed_long c.requires c.in-Record.is
-
-pub loop-at-init : goal.loop-at-init
-loop-at-init c = passing_first c.args.head c.args.table.now c.args.row.now c.args.work.now
 
 pub lists-requires : goal.lists-requires
 lists-requires c = reads c.requires c.in-Record.is c.loop-at.at c.loop-at-test.true c.loop-at.work c.loop-at.auto.work
@@ -18,9 +11,6 @@ lists-requires c = reads c.requires c.in-Record.is c.loop-at.at c.loop-at-test.t
 pub loop-at-preserved : goal.loop-at-preserved
 loop-at-preserved c =
     rw (c.from.ensures, c.lists.ensures) (onward c.requires c.in-Record.is c.loop-at.at c.loop-at-test.true c.loop-at.auto.work c.loop-at.invariant)
-
-pub bounds-work-root : goal.bounds-work-root
-bounds-work-root c = omega (arith, root_inside c.requires c.in-Record.is, c.requires.room)
 
 pub returns : goal.returns
 returns c = finds c.requires c.in-Record.is c.loop-at-test.false c.loop-at.invariant

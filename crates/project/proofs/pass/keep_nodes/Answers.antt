@@ -1,10 +1,7 @@
 -- `keep_nodes`: the root is marked, and each turn is the next step of `passed`.
-use Rattle.std.proofs.Common.{◌≡◌, ◌∙◌, ◌<◌, ◌-◌, ap, arith, length, length-set, refl, suc}
+use Rattle.std.proofs.Common.{◌≡◌, ◌∙◌, ◌<◌, ◌-◌, ap, arith, length, length-set, suc}
 use Rattle.project.specs.Passing.{passed, turns}
 use Rattle.project.proofs.pass.keep_nodes.Goals as goal
-
-pub loop-at-init : goal.loop-at-init
-loop-at-init c = rw (c.in-Record.is, c.clear.ensures) refl
 
 pub look-requires : goal.look-requires
 look-requires c =

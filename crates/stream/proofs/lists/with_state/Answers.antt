@@ -9,4 +9,4 @@ returns-then-state-lt-MOST_STATES c =
     let a = c.args in
     let state = c.from-state.ensures ∙ c.byte_at.ensures in
     subst (λ b. AddsState a.input.now a.at a.accepting (bit_or a.accepting (1 * 2 ^ b % 65536))) (sym state)
-    (state_put a.input.now a.at a.accepting c.if-input-at-eq-ACCEPTING_STATE.true (omega (arith, state)))
+    (state_put a.input.now a.at a.accepting (omega arith) (omega (arith, state)))

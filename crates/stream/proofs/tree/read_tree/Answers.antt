@@ -1,12 +1,9 @@
 -- Each turn passes one more tree record, or is refused as the tree is; where the loop ends, so does the tree.
 use Rattle.std.proofs.Common.{true, ◌≡◌, sym, arith}
 use Rattle.stream.specs.OneRecord.{is_tree_at}
-use Rattle.stream.proofs.TreeReading.{branch_goes_on, leaf_goes_on, not_one, now_nodes, refused_branch, refused_cut, refused_label, refused_many, tree_read, tree_starts}
+use Rattle.stream.proofs.TreeReading.{branch_goes_on, leaf_goes_on, not_one, now_nodes, refused_branch, refused_cut, refused_label, refused_many, tree_read}
 use Rattle.stream.proofs.tree.read_tree.Goals as goal
 use Rattle.stream.proofs.tree.read_tree.Goals.{then-input-next-via-then-input-next, then-input-next-via-else-input-next+then-input-at-gt-HIGHEST_LABEL, then-input-at-eq-LEAF, else-input-at-eq-LEAF+else-unjoined-lt2}
-
-pub loop-at-init : goal.loop-at-init
-loop-at-init c = tree_starts _
 
 pub returns-then-nodes-ge-MOST_NODES : goal.returns-then-nodes-ge-MOST_NODES
 returns-then-nodes-ge-MOST_NODES c = refused_many _ _ _ _ _ c.loop-at.invariant (sym c.loop-at-test.ensures) c.if-nodes-ge-MOST_NODES.true
@@ -29,9 +26,6 @@ returns-then-unjoined-lt2 c =
     refused_branch _ _ _ _ _ c.loop-at.invariant (sym c.loop-at-test.ensures) c.if-nodes-ge-MOST_NODES.false
     (omega (arith, c.body_length.ensures)) c.if-input-at-gt-HIGHEST_LABEL.false c.if-input-at-eq-LEAF.false c.if-unjoined-lt2.true
 
-pub loop-at-smaller : goal.loop-at-smaller
-loop-at-smaller c = omega arith
-
 pub loop-at-preserved : goal.loop-at-preserved
 loop-at-preserved c =
     let here : is_tree_at c.args.input.now c.loop-at.at ≡ true = sym c.loop-at-test.ensures in
@@ -44,8 +38,8 @@ loop-at-preserved c =
           (omega (arith, c.body_length.ensures)) c.if-input-at-gt-HIGHEST_LABEL.false w.if-input-at-eq-LEAF.false w.if-unjoined-lt2.false)
     ])
 
-pub returns-then-unjoined-eq1 : goal.returns-then-unjoined-eq1
-returns-then-unjoined-eq1 c = tree_read _ _ _ _ _ c.loop-at.invariant (sym c.loop-at-test.ensures) c.if-unjoined-eq1.true
+pub returns-then-unjoined-ne1 : goal.returns-then-unjoined-ne1
+returns-then-unjoined-ne1 c = not_one _ _ _ _ _ c.loop-at.invariant (sym c.loop-at-test.ensures) c.if-unjoined-ne1.true
 
-pub returns-else-unjoined-eq1 : goal.returns-else-unjoined-eq1
-returns-else-unjoined-eq1 c = not_one _ _ _ _ _ c.loop-at.invariant (sym c.loop-at-test.ensures) c.if-unjoined-eq1.false
+pub returns : goal.returns
+returns c = tree_read _ _ _ _ _ c.loop-at.invariant (sym c.loop-at-test.ensures) c.if-unjoined-ne1.false

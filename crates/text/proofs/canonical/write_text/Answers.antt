@@ -8,18 +8,18 @@ loop-rest-init c =
     subst (SoFar c.args.tree.now c.args.tree.now) (λ i. record { waiting = sym c.new.ensures i; text = sym c.new-2.ensures i })
     (starts_written c.args.tree.now c.requires)
 
-pub miss-requires : goal.miss-requires
-miss-requires c = can_miss c.loop-rest.writing c.loop-rest.invariant c.in-len2-up.len_at_least c.if-kind-eq-LEAF.true
+pub read_pad-requires : goal.read_pad-requires
+read_pad-requires c = can_miss c.loop-rest.writing c.loop-rest.invariant c.in-len2-up.len_at_least c.if-kind-eq-LEAF.true
 
-pub meet-requires-clause-fits : goal.meet-requires-clause-fits
-meet-requires-clause-fits c = can_meet c.loop-rest.writing c.loop-rest.invariant c.in-len2-up.len_at_least c.if-kind-eq-LEAF.false
+pub read_branch-requires-clause-fits : goal.read_branch-requires-clause-fits
+read_branch-requires-clause-fits c = can_meet c.loop-rest.writing c.loop-rest.invariant c.in-len2-up.len_at_least c.if-kind-eq-LEAF.false
 
 pub loop-rest-preserved-then-kind-eq-LEAF : goal.loop-rest-preserved-then-kind-eq-LEAF
 loop-rest-preserved-then-kind-eq-LEAF c =
-    subst (SoFar c.args.tree.now _) (sym c.miss.ensures)
+    subst (SoFar c.args.tree.now _) (sym c.read_pad.ensures)
     (missing_more c.loop-rest.writing c.loop-rest.invariant c.in-len2-up.len_at_least c.if-kind-eq-LEAF.true)
 
 pub loop-rest-preserved : goal.loop-rest-preserved
 loop-rest-preserved c =
-    subst (SoFar c.args.tree.now _) (sym c.meet.ensures)
+    subst (SoFar c.args.tree.now _) (sym c.read_branch.ensures)
     (met_more c.loop-rest.writing c.loop-rest.invariant c.in-len2-up.len_at_least c.if-kind-eq-LEAF.false)
