@@ -1,22 +1,19 @@
--- The law of a question. It is refused by `weigh`, or by the first of its own tests that fails, or it answers. First its own tests alone, as its code goes
--- through them; then behind those of `weigh`: the reply is what its own part says, and the cleared work is the work that this reply leaves. Of a set that
--- `weigh` refuses, `refused_reply` and `refused_work` (`Answered`) say the same.
+-- The law of a question. It is refused by `weigh`, or by the first of its own tests that fails, or it answers. First its own tests alone; then behind those
+-- of `weigh`: the reply is what they say, and the cleared work is the work that this reply leaves. Of a set that `weigh` refuses, `refused_reply` and
+-- `refused_work` (`Answered`) say the same.
 use mathlib.Core.Bool.{Bool, cond, false, true}
 use mathlib.Core.List.{List, [], ◌++◌, ◌∷◌}
 use mathlib.Core.Path.{◌∙◌, ◌≡◌, ap, refl, sym}
 use Prim.Native.Nat.{◌<◌, ℕ}
 use native.Mathlib.Omega.{arith}
 use borrow.Author.Tests.{lt-leb}
-use mathlib.Core.List.{append-nil}
 use lib.ListN.{drop, length, replicate}
-use Rattle.std.specs.Prelude.{Result, Ok, Err}
+use Rattle.std.specs.Prelude.{Ok}
 use Rattle.paper.specs.declared.Head.{Head}
 use Rattle.paper.specs.declared.Record.{Record}
-use Rattle.paper.specs.declared.Refusal.{Refusal}
-use Rattle.paper.specs.Answers.{no_of, number_of, says}
+use Rattle.paper.specs.Answers.{no_of, number_of}
 use Rattle.paper.specs.Questions.{question_work}
 use Rattle.paper.specs.Refusals.{Reply, answer, ask_tests, over, refused, unless, work_after}
-use Rattle.laws.proofs.Replies.{Passes, answered, refused_append}
 use Rattle.sound.specs.Face.{Weighs}
 use Rattle.sound.specs.Questions.{OwnTest, cleared, tests_of}
 use Rattle.sound.proofs.Answered.{sound_behind, sound_length, sound_reply, sound_room}
@@ -31,34 +28,10 @@ abbrev pub Holds : List OwnTest → Type 0
 Holds [] = Unit {0}
 Holds (t ∷ ts) = (t.1 ≡ true) × Holds ts
 
--- ---- the question's own tests, one after the other
-module _ {A : Type 0} (a : A) where
-  -- tests that hold may be left out in front
-  pub behind_held : (before after : List OwnTest) → Holds before → unless (tests_of (before ++ after)) a ≡ unless (tests_of after) a
-  behind_held [] after held = refl
-  behind_held (t ∷ before) after held = rw held.0 (behind_held before after held.1)
-
-  -- the first that fails refuses
-  pub first_fails : (before : List OwnTest) (t : OwnTest) (after : List OwnTest) → Holds before → t.1 ≡ false
-      → unless (tests_of (before ++ (t ∷ after))) a ≡ refused (no_of t.0)
-  first_fails before t after held fails = behind_held before (t ∷ after) held ∙ ap (λ (c : Bool). cond c (unless (tests_of after) a) (refused (no_of t.0))) fails
-
-  -- all hold
-  pub all_hold : (ts : List OwnTest) → Holds ts → unless (tests_of ts) a ≡ answer a
-  all_hold [] held = refl
-  all_hold (t ∷ ts) held = rw held.0 (all_hold ts held.1)
-
-held_of : (ts : List OwnTest) → Passes (tests_of ts) → Holds ts
-held_of [] passes = tt
-held_of (t ∷ ts) passes = (passes.0, held_of ts passes.1)
-
--- a function may make them alone, and tell what they come to
-module _ (ts : List OwnTest) {r : Result (Unit {0}) Refusal} (told : says no_of r ≡ unless (tests_of ts) tt) where
-  pub made_hold : r ≡ Ok tt → Holds ts
-  made_hold said = held_of ts (answered (tests_of ts) (sym told ∙ ap (says no_of) said)).0
-
-  pub made_fail : {why : Refusal} → r ≡ Err why → {A : Type 0} (a : A) → unless (tests_of ts) a ≡ refused (no_of why)
-  made_fail {why} said {A} a = rw append-nil at (refused_append (tests_of ts) [] tt a (sym told ∙ ap (says no_of) said))
+-- ---- the question's own tests
+pub all_hold : {A : Type 0} (a : A) (ts : List OwnTest) → Holds ts → unless (tests_of ts) a ≡ answer a
+all_hold a [] held = refl
+all_hold a (t ∷ ts) held = rw held.0 (all_hold a ts held.1)
 
 -- ---- behind those of `weigh`
 module _ {h : Head} {table : List Record} {work work₁ : List ℕ} (W : Weighs h table work (Ok tt) work₁) (ts : List OwnTest) {A : Type 0} (a : A) where

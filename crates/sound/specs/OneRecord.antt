@@ -55,7 +55,7 @@ abbrev pub weight_for : ℕ → Option ℕ → Option ℕ
 weight_for flag None = None
 weight_for flag (Some rows) = Some (16 * rows + flag)
 
--- there are weights before `at`, each of no more rows than a record may list
+-- record `at` has a place for its weight, and those before it have weights, each of no more rows than a record may list
 pub record Weighable (at : ℕ) (weights : List ℕ) : Type 0 where
-  pub there : at ≤ length weights
+  pub there : at < length weights
   pub few : (k : ℕ) → k < at → rows_in (get_or weights k 0) ≤ most_rows

@@ -1,6 +1,6 @@
 // The test of one record after those before it, of which the work has the weights. First the tests of
 // the flags, then the weight of each kind, then that of any record; one that is not sound has none.
-ghost use Rattle.std.specs.Prelude.{◌&&◌, ◌≡◌, ◌+◌, ◌*◌, ◌≤◌, eqb, length};
+ghost use Rattle.std.specs.Prelude.{◌&&◌, ◌≡◌, ◌+◌, ◌*◌, ◌≤◌, ◌<◌, eqb, length};
 ghost use Rattle.paper.specs.Sound.{apart, most_rows};
 ghost use Rattle.sound.specs.OneRecord.{single_rows, union_rows, product_rows, rows_by, rows_found, weight_for, record_fits, before, Weighable};
 ghost use Rattle.sound.specs.Weights.{rows_in};
@@ -88,7 +88,7 @@ fn product_weight(flag: u64, left: u64, right: u64) -> Option<u64>
 
 // The weights of the operands of record `at`, where both are lower: so no record leads back to itself.
 fn operands(r: Record, at: usize, work: &[u64]) -> Option<(u64, u64)>
-    requires { at ≤ length work.now }
+    requires { at < length work.now }
     ensures { result ≡ before r at work.now }
 {
     let left = r.left as usize;
@@ -122,7 +122,8 @@ fn weight_by(r: Record, at: usize, work: &[u64]) -> Option<u64>
 }
 
 // Whether a record has a node of the tree and a flag above none and below 2 to the arity, which the
-// head's test has found to be at most 4.
+// head's test has found to be at most 4. That goes down the three calls from `weigh_records` as a
+// premise: a struct for it would be no plainer.
 #[tactic(auto, unfolding(crate::specs::OneRecord::record_fits))]
 fn record_fits(r: Record, nodes: u16, arity: u16) -> bool
     requires { arity ≤ 4 }
