@@ -1,18 +1,16 @@
--- From the first state to the answer: what `begin` and `drive` say makes what the paper says of a build. First a build that is
--- refused at once, then one that begins, and the two ways in which it ends.
+-- From the first state to the answer: what `begin` and `drive` say makes what the paper says of a build that has begun. Last the two ways
+-- in which it ends.
 use mathlib.Core.List.{List, ◌++◌}
 use mathlib.Core.Path.{◌≡◌, sym, ap, ◌∙◌, subst}
 use Prim.Native.Nat.{ℕ, ◌≤◌, min}
 use native.Mathlib.Omega.{arith}
-use borrow.Author.Tests.{le-leb, ne_eqb}
 use lib.ListN.{length, drop, replicate}
 use Rattle.std.specs.Prelude.{Err, Ok, Result}
-use Rattle.paper.specs.Answers.{no_of, no_of_stream, told}
+use Rattle.paper.specs.Answers.{no_of, told}
 use Rattle.paper.specs.Records.{blank_entry}
-use Rattle.paper.specs.Refusals.{No, Reply, answer, no, refused, build, head_from, number_in, made_from, over, table_after, work_after, work_for}
+use Rattle.paper.specs.Refusals.{Reply, answer, no, refused, build, head_from, made_from, over, table_after, work_for}
 use Rattle.paper.specs.declared.Head.{Head}
 use Rattle.paper.specs.declared.Refusal.{Refusal}
-use Rattle.paper.specs.declared.StreamRefusal.{StreamRefusal}
 use Rattle.paper.specs.declared.StreamRefusal.TheVariants.{Other}
 use Rattle.building.specs.Batch.{Record, Set}
 use Rattle.building.specs.Bounds.{most_records}
@@ -20,28 +18,9 @@ use Rattle.building.specs.Driving.{Ready, Driven}
 use Rattle.building.specs.Face.{Builds}
 use Rattle.building.specs.Roots.{HeadFits, head_of}
 use Rattle.building.specs.Standing.{Constants, Done, State}
-use Rattle.building.specs.Start.{Begins, Started}
+use Rattle.building.specs.Start.{Started}
 use Rattle.building.proofs.Finishing.{built_answer, built_refused, cleared, head_fits, head_is}
 
--- ---- refused at once
-early_work : (n : No) (asked : ℕ) (work : List ℕ) → number_in n ≤ 5 → work ≡ work_after {A = Head × List Record} (refused n) asked work
-early_work n asked work early = rw (le-leb (number_in n) 5 early)
-
-early_table : (n : No) (table : List Record) → number_in n ≤ 5 → table ≡ table_after (refused n) table
-early_table n table early = rw (ne_eqb (number_in n) 6 (λ e. omega (arith, e, early)))
-
-pub refused_face : (input work : List ℕ) (table : List Record) (r : StreamRefusal) (work' lists : List ℕ)
-    → Begins input work (length table) (Err r) work' lists → Builds input work table (Err r) work' table
-refused_face input work table r work' lists (reply, early, same) = record {
-  answer = ap (told (λ a. a.0)) (sym reply);
-  worked =
-      same
-      ∙ early_work (no_of_stream r) (work_for input) work early
-      ∙ ap (λ (x : Reply (Head × List Record)). work_after x (work_for input) work) (sym reply);
-  written = early_table (no_of_stream r) table early ∙ ap (λ (x : Reply (Head × List Record)). table_after x table) (sym reply);
-}
-
--- ---- begun
 module _ (input work : List ℕ) (table : List Record) (s : State) (work₁ lists : List ℕ) (b : Started input work (length table) s work₁ lists) where
   pub ready : Ready input lists table s work₁
   ready = record { standing = b.standing; listed = b.listed; entries = omega (arith, b.limit) }

@@ -41,9 +41,6 @@ pub frames_at_most : (arity states frame : ℕ) → arity ≤ most_places → st
     → frame * width arity states ≤ most_frames * (most_states * most_flags)
 frames_at_most arity states frame ha hs hf = omega (arith, frame_at_most arity states ha hs, mul-le-mul_right (width arity states) hf)
 
-pub shelves_at_most : (arity state : ℕ) → arity ≤ most_places → state ≤ most_states → state * 2 ^ arity ≤ most_states * most_flags
-shelves_at_most arity state ha hq = omega (arith, flags_at_most arity ha, mul-le-mul_right (2 ^ arity) hq)
-
 -- a slot stands in its frame
 pub slot_below : (arity states q b : ℕ) → q < states → b < 2 ^ arity → q * 2 ^ arity + b < width arity states
 slot_below arity states q b hq hb = omega (arith, parts_apart (2 ^ arity) q states hq)

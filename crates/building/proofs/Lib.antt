@@ -4,7 +4,6 @@ pub mod Marks
 pub mod FreeMarks
 pub mod Slots
 pub mod Making
-pub mod Uniting
 pub mod Running
 pub mod TripleTable
 pub mod Turns

@@ -1,8 +1,8 @@
--- What the numbers of a batch make, call by call: nothing, one more record, the same under another name, one thing after the other. B is the
+-- What the numbers of a batch make, call by call: one more record, and one thing after the other. B is the
 -- batch, B' what it is afterwards.
 use mathlib.Core.List.{List, [], ◌∷◌, ◌++◌, append_assoc}
 use mathlib.Core.Path.{◌∙◌, ◌≡◌, ap, sym}
-use Prim.Native.Nat.{◌+◌, ◌≤◌, ℕ}
+use Prim.Native.Nat.{◌+◌, ℕ}
 use native.Mathlib.Omega.{arith}
 use lib.ListN.{length, length-append}
 use Rattle.paper.specs.Building.{new_record}
@@ -12,12 +12,6 @@ use Rattle.building.specs.Batch.{Made, Makes, Record, Set, at, records_in, set_i
 
 -- ---- making
 module _ (used k : ℕ) (B : List ℕ) where
-  -- no record: the set is at hand
-  pub none_made : (make : List Record → List Record × Set) (set : ℕ) → ((table : List Record) → make table ≡ (table, set_in set))
-      → set ≤ used + k + 1 → Makes make 1 used k B (record { count = k; set = set }) B
-  none_made make set same h =
-      record { makes = λ base e. same (base ++ records_in k B); more = omega arith; few = omega arith; at_hand = h }
-
   -- one more record
   pub record_made : (r : Record) (B' : List ℕ) → records_in (k + 1) B' ≡ records_in k B ++ (r ∷ [])
       → Makes (new_record r) 1 used k B (record { count = k + 1; set = used + k + 2 }) B'
@@ -30,12 +24,6 @@ module _ (used k : ℕ) (B : List ℕ) where
           let n : length (base ++ records_in k B) ≡ used + k = omega (arith, length-append base (records_in k B), length_records k B) in
           let s : at (length (base ++ records_in k B)) ≡ set_in (used + k + 2) = ap at n ∙ sym (set_of (used + k)) in
           λ i. (table i, s i)
-
-  -- the same under another name
-  pub as_made : (make make' : List Record → List Record × Set) (m : Made) (B' : List ℕ) → ((table : List Record) → make' table ≡ make table)
-      → Makes make 1 used k B m B' → Makes make' 1 used k B m B'
-  as_made make make' m B' same h =
-      record { makes = λ base e. same (base ++ records_in k B) ∙ h.makes base e; more = h.more; few = h.few; at_hand = h.at_hand }
 
   -- one after the other: the second is given the set of the first
   pub then_made : (most most' : ℕ) (make : List Record → List Record × Set) (next : Set → List Record → List Record × Set)

@@ -164,10 +164,6 @@ module _ (size all n marks : ℕ) (r : Rest size all n marks) (some : (marks ≡
     left = λ b h. taken_first.kept b (omega arith) ∙ r.left b (omega (arith, first_onward));
   }
 
--- there are fewer
-pub fewer_marks : (marks : ℕ) → (marks ≡ 0 → ⊥) → later_marks marks < marks
-fewer_marks marks some = omega (arith, and_le_r marks (marks - 1))
-
 -- ---- a mark that is added
 or_marks : (m k b : ℕ) → mark_at (bit_or m k) b ≡ bit_or (mark_at m b) (mark_at k b)
 or_marks m k b = ap (λ x. x % 2) (or_shr m k b) ∙ or_mod (m / 2 ^ b) (k / 2 ^ b) 1
@@ -201,10 +197,6 @@ lower_mark zero b h = absurd (omega arith)
 lower_mark (suc flag) zero h = lowest_digit (1 * 2 ^ suc flag) ∙ shifted_even 1 flag
 lower_mark (suc flag) (suc b) h =
     later_digit (1 * 2 ^ suc flag) b ∙ ap (λ x. mark_at x b) (shifted_half 1 flag) ∙ lower_mark flag b (omega arith)
-
--- none at first
-pub mask_starts : (test : ℕ → Bool) → Mask test 0 0
-mask_starts test = record { few = omega arith; right = λ b h. absurd (omega arith) }
 
 -- the next flag passes and is marked, or does not and is not
 module _ {test : ℕ → Bool} {n marks : ℕ} (m : Mask test n marks) where

@@ -4,7 +4,7 @@ use mathlib.Core.Bool.{Bool, false, true}
 use mathlib.Core.List.{List}
 use mathlib.Core.Path.{◌∙◌, ◌≡◌, ap, refl, subst, sym}
 use Prim.Native.Nat.{◌*◌, ◌+◌, ◌/◌, ◌<◌, ◌%◌, ◌^◌, ℕ}
-use native.Mathlib.Nat.{div-add-mod', mul-mod_left}
+use native.Mathlib.Nat.{mul-mod_left}
 use native.Mathlib.Omega.{arith}
 use borrow.Author.Tests.{eqb-false, eqb-true}
 use lib.Arith.{digits_div, digits_mod}
@@ -30,10 +30,6 @@ module _ (n flag mark : ℕ) (e : mark ≡ 2 ^ flag * 2 ^ 16) where
   marked_marks : bit_or n mark / slot_sets ≡ bit_or (n / slot_sets) (2 ^ flag)
   marked_marks =
       ap (λ x. bit_or n x / slot_sets) e ∙ or_shr n (2 ^ flag * 2 ^ 16) 16 ∙ ap (bit_or (n / slot_sets)) (shl-shr (2 ^ flag) 16)
-
--- another set in a slot fits the slot
-pub slot_fits : (x new : ℕ) → x < 2 ^ 64 → new < slot_sets → x / slot_sets * slot_sets + new < 2 ^ 64
-slot_fits x new h small = omega (arith, div-add-mod' x slot_sets)
 
 -- the flag is marked, and then a number is written to its slot: the set, and above it the marks if it is the shelf's first number
 module _ (work : List ℕ) (shelf flag mark : ℕ) (e : mark ≡ 2 ^ flag * 2 ^ 16) (inside : shelf + flag < length work) where

@@ -22,7 +22,7 @@ use Rattle.stream.proofs.Table.{at_entry}
 use Rattle.building.specs.Bounds.{most_flags, most_places, rule_splits}
 use Rattle.building.specs.Rules.{flags_at, pair_at}
 use Rattle.building.specs.Splits.{Masked, all_triples, free_at, left_at, note_numbers, packed, shared_at, triple_count, triples_of}
-use Rattle.building.proofs.Marks.{Mask, mask_marked, mask_starts, mask_unmarked}
+use Rattle.building.proofs.Marks.{Mask, mask_marked, mask_unmarked}
 use Rattle.building.proofs.Running.{each_le, each_up_to}
 
 -- ---- the table, as the source has it
@@ -96,13 +96,6 @@ entry_is m =
     let (w, mw, e) = Memᴰ.of_map (packed first) (flags_beside most_places first) n in
     let (left_lt, right_lt, inner, outer) = mem_flags_beside most_places first w mw in
     (first, w, mem_up_to most_flags mf, left_lt, right_lt, outer, e)
-
--- so it has three hex digits
-pub entry_small : (table : List ℕ) → table ≡ all_triples → (i : ℕ) → i < triple_count → get_or table i 0 < most_flags ^ 3
-entry_small table whole i h =
-    let m : get_or all_triples i 0 ∈ all_triples = in_at 0 all_triples i (omega (arith, count)) in
-    let (first, w, first-lt, left_lt, right_lt, outer, e) = entry_is m in
-    rw whole (omega arith)
 
 -- ---- the masks of a flag
 -- with no own flag a left flag and a right one are a pair of the paper if they share no bit
@@ -210,10 +203,6 @@ pub record Masking (flag b free shared i : ℕ) : Type 0 where
   pub beside : Mask (apart flag) b free
   pub sharing : Mask (λ n. not (apart flag n)) b shared
 
-pub masking_starts : (flag from : ℕ) → from ≡ left_at flag → Masking flag 0 0 0 from
-masking_starts flag from e =
-    record { place = omega (arith, e); beside = mask_starts (apart flag); sharing = mask_starts (λ n. not (apart flag n)) }
-
 module _ {flag b free shared i : ℕ} (m : Masking flag b free shared i) where
   pub masking_apart : apart flag b ≡ true → Masking flag (b + 1) (bit_or free (1 * 2 ^ b)) shared (i + 1)
   masking_apart e = record {
@@ -228,13 +217,6 @@ module _ {flag b free shared i : ℕ} (m : Masking flag b free shared i) where
     beside = mask_unmarked m.beside e;
     sharing = mask_marked m.sharing (ap not e);
   }
-
-  pub masking_ends : Masked b flag free shared
-  masking_ends = record { beside = m.beside.right; sharing = λ n h. m.sharing.right n h ∙ other (apart flag n); few = m.beside.few }
-    where
-      other : (t : Bool) → ◌≡◌ {A = ℕ} (cond (not t) 1 0) (cond t 0 1)
-      other true = refl
-      other false = refl
 
 -- ---- the masks of all flags
 -- those of one more are put into the notes

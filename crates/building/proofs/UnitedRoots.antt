@@ -2,7 +2,7 @@
 -- the numbers, and what it has done.
 use mathlib.Core.Bool.{Bool, false, not, true}
 use mathlib.Core.List.{List, ◌++◌}
-use mathlib.Core.Path.{◌∙◌, ◌≡◌, ap, refl, subst₂, sym}
+use mathlib.Core.Path.{◌∙◌, ◌≡◌, ap, subst₂, sym}
 use Prim.Native.Nat.{◌*◌, ◌+◌, ◌-◌, ◌<◌, ◌^◌, ◌≤◌, ℕ}
 use native.Mathlib.Nat.{suc-mul}
 use native.Mathlib.Numerals.{add-one}
@@ -32,9 +32,6 @@ use Rattle.building.proofs.ReadInput.{accepting_are}
 
 -- ---- one state after the other
 module _ (input : List ℕ) (t : State) (work batch : List ℕ) where
-  pub united_none : UnitedTo input t work 0 batch (record { count = t.count; set = 0 }) batch
-  united_none slots f = record { makes = λ base e. refl; more = omega arith; few = omega arith; at_hand = omega arith }
-
   module _ (k : Constants input t) (q : ℕ) (found : Bool) (e : found ≡ has (accepting_of (records_of (drop t.rules input))) q)
       (m : Made) (batch₁ : List ℕ) (done : UnitedTo input t work q batch m batch₁) where
     accepts : has (query_in input).accepting q ≡ found
