@@ -14,7 +14,7 @@ ghost use Rattle.building.specs.Batch.{records_in, set_in, Makes, RoomFor};
 ghost use Rattle.building.specs.Bounds.{most_flags, record_numbers};
 
 use paper::Record;
-use paper::kinds::{PRODUCT, SINGLE, UNION};
+use paper::kinds::RecordKind;
 use table::{EMPTY, FIRST_RECORD, RECORD_NUMBERS, UNIT};
 
 // A split makes at most a single, two products and a union.
@@ -82,7 +82,7 @@ pub(crate) fn single(batch: &mut [u16], k: usize, used: usize, node: u16, flag: 
         };
     }
     let new = Record {
-        kind: SINGLE,
+        kind: RecordKind::Single as u16,
         node,
         left: 0,
         right: 0,
@@ -121,7 +121,7 @@ pub(crate) fn product(
         };
     }
     let new = Record {
-        kind: PRODUCT,
+        kind: RecordKind::Product as u16,
         node,
         left: (left - FIRST_RECORD) as u16,
         right: (right - FIRST_RECORD) as u16,
@@ -161,7 +161,7 @@ pub(crate) fn union(
         };
     }
     let new = Record {
-        kind: UNION,
+        kind: RecordKind::Union as u16,
         node,
         left: (left - FIRST_RECORD) as u16,
         right: (right - FIRST_RECORD) as u16,

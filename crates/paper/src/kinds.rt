@@ -1,4 +1,5 @@
-// The kinds of records: first those of the input stream, each with its body, then those of the table.
+// The kinds of records: first those of the input stream, each with its body, then those of the table. A stream's kind stays a byte: the
+// paper names the decision over it, with ranges, and the table of lengths that it looks up ('The shape of some places').
 
 // A leaf of the tree: label.
 pub const LEAF: u8 = 1;
@@ -52,12 +53,3 @@ impl TryFrom<u16> for RecordKind {
         }
     }
 }
-
-// A single: the node at each place of the flag.
-pub const SINGLE: u16 = 1;
-
-// A union: the left rows, then the right ones.
-pub const UNION: u16 = 2;
-
-// A product: for each left row every right one.
-pub const PRODUCT: u16 = 3;
