@@ -1,6 +1,6 @@
--- Sets as numbers: the number of a set and what it means lead back to one another.
+-- Sets as numbers: what the number of a record means, and that of any set.
 use mathlib.Core.Path.{◌≡◌, ap, refl}
-use Prim.Native.Nat.{◌+◌, suc, zero, ℕ}
+use Prim.Native.Nat.{◌+◌, suc, ℕ}
 use native.Mathlib.Omega.{arith}
 use Rattle.table.specs.Sets.{Set, at, empty, set_in, set_number, unit}
 
@@ -11,8 +11,3 @@ pub set_number_lem : (e : Set) → set_in (set_number e) ≡ e
 set_number_lem empty = refl
 set_number_lem unit = refl
 set_number_lem (at i) = refl
-
-pub number_set : (n : ℕ) → set_number (set_in n) ≡ n
-number_set zero = refl
-number_set (suc zero) = refl
-number_set (suc (suc n)) = refl

@@ -1,5 +1,6 @@
-// The paper's three ways to make a set, by which a set is built and a fixed one made anew. Each makes at most one record, and
-// also where an equal one stands already; whoever calls puts it into the table.
+// The paper's three ways to make a set. Each makes at most one record, and also where an equal one stands already; whoever calls
+// puts it into the table, as a fix does. The building has its own three, of numbers and into its batch (building/src/batch.rt):
+// by these a build took 1.4 times the instructions.
 ghost use Rattle.paper.specs.Building.{single_record, product_record, union_record};
 ghost use Rattle.table.specs.Made.{Makes, OneOf};
 ghost use Rattle.table.specs.Sets.{unit};
