@@ -32,7 +32,8 @@ overflow_add-from c =
 
 pub copy_within-requires-clause-in_bounds : goal.copy_within-requires-clause-in_bounds
 copy_within-requires-clause-in_bounds c =
-    (join_room _ _ _ _ c.requires.1 c.if-input-self-eq-LEAF.false c.frame_at-from.ensures c.frame_at-to.ensures c.frame_width.ensures).1
+    let room = join_room _ _ _ _ c.requires.1 c.if-input-self-eq-LEAF.false c.frame_at-from.ensures c.frame_at-to.ensures c.frame_width.ensures in
+    omega (arith, room.1)
 
 pub copy_within-requires-clause-dest_in_bounds : goal.copy_within-requires-clause-dest_in_bounds
 copy_within-requires-clause-dest_in_bounds c =
