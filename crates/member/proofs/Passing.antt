@@ -73,10 +73,10 @@ module _ {h : Head} {table : List Record} {work : List ℕ} {row : Row} (F : Fit
       -- the record has a kind, and its operands do not stand behind it
       pub reads : (now : List ℕ) → length now ≡ length work → Reads (entry passed i) now
       reads now long = subst (λ (r : Record). Reads r now) read (
-        ⊎_elim (λ e. kept Single e.0 (omega (arith, e.1)) (omega (arith, e.2)))
-        (⊎_elim (λ e. kept Union e.0 (omega (arith, e.1)) (omega (arith, e.2))) (λ e. kept Product e.0 (omega (arith, e.1)) (omega (arith, e.2))))
-        (sounds i (omega (arith, used_long, inside))).kind
-      )
+          ⊎_elim (λ e. kept Single e.0 (omega (arith, e.1)) (omega (arith, e.2)))
+          (⊎_elim (λ e. kept Union e.0 (omega (arith, e.1)) (omega (arith, e.2))) (λ e. kept Product e.0 (omega (arith, e.1)) (omega (arith, e.2))))
+          (sounds i (omega (arith, used_long, inside))).kind
+          )
         where
           kept : (k : RecordKind) → (entry (used_of h table) i).kind ≡ kind_number k → (entry (used_of h table) i).left ≤ i
               → (entry (used_of h table) i).right ≤ i → Reads (entry (used_of h table) i) now

@@ -220,7 +220,11 @@ fn tell_head(answered: Result<Head, Refusal>, head: &mut [u16; HEAD_NUMBERS]) ->
 }
 
 // The same of a build, whose refusal may have a position. Nothing is read and nothing is written for the others.
-fn tell_build(built: Result<Head, StreamRefusal>, head: &mut [u16; HEAD_NUMBERS], position: &mut usize) -> u8
+fn tell_build(
+    built: Result<Head, StreamRefusal>,
+    head: &mut [u16; HEAD_NUMBERS],
+    position: &mut usize,
+) -> u8
     ensures { TellsWhere (told head_numbers (says_built built)) head.old position.old result
         head.new position.new }
 {
