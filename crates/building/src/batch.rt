@@ -1,6 +1,6 @@
-// A batch holds the records that turns make before they go into the table. It is there for the proofs: they
-// speak of plain numbers, and not of the table, a slice of structs. So everything is made here, and one
-// function, `table::store`, copies it.
+// A batch holds the records that turns make before they go into the table. The paper names this form ('The
+// shape of some places'): thin functions over the lent slice of structs, after a core on plain numbers. So
+// everything is made here, and one function, `table::store`, copies it.
 // First the limits of a batch and what its numbers mean; then a record put into it; then the paper's three
 // ways to make a set, each of which makes at most one record.
 // `table` has the three for sets as an enum, and with these a build was tried: it proves, and a tree of 1,001

@@ -1,9 +1,9 @@
 // Building: the slots of each node, by the rules, in the paper's order, and the records that they are
 // made of. First the public call, then the loop that hands the records on to the lent table.
 //
-// The table is a slice of structs, and only these two functions hold it, and do little else: the records are
-// made in a batch of plain numbers (batch.rt), and `table::store` copies them. The other files, in the order in
-// which a build comes to them: start.rt, node.rt, rule.rt, roots.rt. What they share: state.rt; frame.rt and
+// The table is a slice of structs, and only these two functions hold it, and do little else, as the paper has it:
+// the records are made in a batch of plain numbers (batch.rt), and `table::store` copies them. The other files, in
+// the order in which a build comes to them: start.rt, node.rt, rule.rt, roots.rt. What they share: state.rt; frame.rt and
 // slot.rt for the lent work; triples.rt and splits.rt for the flags of a split.
 #![tactic(auto)]
 

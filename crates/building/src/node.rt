@@ -18,7 +18,7 @@ use stream::{LIST_NUMBERS, body_length, first_rule, rule_after};
 
 impl State {
     // The rules of a leaf from the next one on, as long as there is room in the batch for the records of one
-    // more. The loop ends since `rule` moves on through the stream, to its end where no rule is left; where
+    // more. No range is gone over: the lists say where the next rule stands. The loop ends since `rule` moves on through the stream, to its end where no rule is left; where
     // the batch ends it, the next call goes on at `rule`. A leaf rule makes one record at most, and yet the
     // loop stops where a branch's does: so one law (proofs/RuleLoop.antt) serves both.
     fn leaf_rules(

@@ -1,6 +1,6 @@
 // The two passes over the used records of the source: the first finds the images, the second makes the
 // new records. There are two since a refusal leaves the target as it was, and 12 is found by the images.
-// They alone hold the lent tables; what is done with a record stands in image.rt.
+// They alone read and write the lent tables; what is done with a record stands in image.rt.
 ghost use Rattle.std.specs.Prelude.{◌≡◌, ◌≤◌, length};
 ghost use Rattle.paper.specs.Refusals.{over};
 ghost use Rattle.fix.specs.Passes.{Fitting, Imaged, Numbered, new_records};

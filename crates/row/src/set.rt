@@ -160,6 +160,7 @@ impl SoundSet<'_> {
         };
         let at = root as usize;
         let start = self.below_unions(Listed { at, number });
+        // By index: of what `iter_mut` goes over a proof knows no element.
         for place in 0..MOST_PLACES {
             if has_place(self.head.open_places, place) {
                 let single = self.single_at(start, place);

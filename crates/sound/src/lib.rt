@@ -19,6 +19,9 @@ mod weight;
 // How a weight is read is for the questions too.
 pub use weight::{flag_in, rows_in};
 
+// A head and its table go apart from each other through all questions, as C lends them: a struct of both
+// would be made at each call and taken apart in it (docs/DECISIONS.md, 129).
+
 // Refusals 5 and 11, as the paper orders them, or the weights of the used records in the work. A caller
 // that is told `Ok` has to clear the work; after a refusal it is as the paper wants it.
 pub fn weigh(head: Head, table: &[Record], work: &mut [u64]) -> Result<(), Refusal>

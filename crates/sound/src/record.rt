@@ -122,8 +122,8 @@ fn weight_by(r: Record, at: usize, work: &[u64]) -> Option<u64>
 }
 
 // Whether a record has a node of the tree and a flag above none and below 2 to the arity, which the
-// head's test has found to be at most 4. That goes down the three calls from `weigh_records` as a
-// premise: a struct for it would be no plainer.
+// head's test has found to be at most 4. That comes down from the pass as a premise: a struct for one
+// number, made where the head is tested and taken apart here, would be no plainer.
 #[tactic(auto, unfolding(crate::specs::OneRecord::record_fits))]
 fn record_fits(r: Record, nodes: u16, arity: u16) -> bool
     requires { arity ≤ 4 }

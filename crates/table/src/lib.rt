@@ -1,5 +1,5 @@
 // The lent table of records: the two functions that write it, what the second calls, and the set that a number is.
-// Those two hold a slice of structs; whatever can be done on plain numbers is done by the others.
+// Those two are thin functions over a slice of structs, behind a core on plain numbers: the paper names this form.
 // What becomes of sets where they are put together has a file of its own.
 #![tactic(auto)]
 
@@ -33,7 +33,7 @@ pub fn blank(table: &mut [Record])
 }
 
 // The first `count` records of a batch, five numbers each, to the entries from `from` on; nothing where they do not fit.
-// A batch is plain numbers, so that what makes records holds no slice of structs.
+// A batch is plain numbers, the core that the paper names. By index: of what `iter_mut` goes over a proof knows no element.
 // `store` asks for nothing: a caller that knows that the records fit learns from `stored` that they stand there.
 pub fn store(table: &mut [Record], from: usize, batch: &[u16], count: usize)
     ensures { table.new ≡ stored table.old from batch.now count }
@@ -69,7 +69,7 @@ fn record_at(batch: &[u16], i: usize) -> Record
     }
 }
 
-// The set that a number is, at the end: 0 is empty, 1 is unit, i + 2 is record i. There are at most 60,000 records, so the number
+// No `From` may stand here: `Set` is another room's. The set that a number is, at the end: 0 is empty, 1 is unit, i + 2 is record i. There are at most 60,000 records, so the number
 // of each fits 16 bits.
 pub fn set_of(number: u16) -> Set
     ensures { result ≡ set_in number }

@@ -134,6 +134,8 @@ pub extern "C" fn tarn_tree_to_text(tree: &[u8], text: &mut [u8], bytes: &mut us
     tell(written, bytes)
 }
 
+// No `From` may stand here for the head: both types are other rooms'.
+
 // The head of six numbers, whatever they are: nodes, arity, open places, records used, the kind of the set, its record.
 fn head_of(numbers: &[u16; HEAD_NUMBERS]) -> Head
     ensures { result ≡ head_of numbers.now }
@@ -195,8 +197,6 @@ fn set_record(set: Set) -> u16
         Set::Record(i) => i,
     }
 }
-
-// ---- an answer as a number, with what is written in its out parameter
 
 // 0 with an answer, which may be 0 rows or a row that is not listed; what stands in a lent output is written already, and its answer
 // is (). The refusal's number is above 0 for every refusal.

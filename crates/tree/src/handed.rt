@@ -4,7 +4,8 @@ ghost use Rattle.tree.specs.Handing.{Due, HandsOn};
 
 use lines::write_or_tell;
 
-// The number of standard output. Any other descriptor would be standard error here, and none is ever asked for.
+// The number of standard output. Any other descriptor would be standard error here, and none is ever asked for. It is a parameter, since
+// std's writers do not say which stream they are: `Due` says which it has to be, and a program that hands on to another is refused.
 pub(crate) const STDOUT_FILENO: i32 = 1;
 
 const FAILURE: &[u8] = b"tree: the records could not be written\n";
