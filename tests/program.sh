@@ -33,7 +33,7 @@ plain=':use std::(array|marker::Model);$'
 # code_lines WORDS: the lines of code that have one of them, each behind its file
 code_lines() { grep -rE --include='*.rt' "$1" crates/*/src | grep -vE ":[[:space:]]*(//|requires|ensures|ghost)|$plain"; }
 read_lines() {
-    local calls='\b(tell|list|rows|put_line|pass_on|hand_on|read_full)\(' programs='^crates/(list|tree)/'
+    local calls='\b(tell|list|rows|put_line|pass_on|hand_on|read_full|Unwritten)\(' programs='^crates/(list|tree)/'
     {
         code_lines "$system" | grep -vE "$programs"
         code_lines "$system|$calls|\binput\b|&\[u8\]" | grep -E "$programs"

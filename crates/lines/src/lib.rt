@@ -142,14 +142,15 @@ pub fn read_full<R: Read>(from: &mut R, buffer: &mut [u8]) -> usize
     done
 }
 
-// Writes all of the bytes. That it failed is told in a line of its own, unless the reader went away.
+// Writes all of the bytes. That it failed is told in a line of its own, unless the reader went away; where all went well nothing is.
 pub fn write_or_tell<W: Write, E: Write>(
     out: &mut W,
     bytes: &[u8],
     errors: &mut E,
     failure: &[u8],
 ) -> std::io::Result<()>
-    ensures { OnOk result (Appends (W.contents out.old) (W.contents out.new) bytes.now) }
+    ensures written { OnOk result (Appends (W.contents out.old) (W.contents out.new) bytes.now) }
+    ensures quiet { OnOk result (errors.new ≡ errors.old) }
 {
     let written = out.write_all(bytes);
     if let Err(why) = &written
