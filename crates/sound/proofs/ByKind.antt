@@ -1,18 +1,19 @@
 -- The rows of a record by the weights before it, kind by kind: first what each kind has, then which kind a record has that has some.
 use mathlib.Core.Bool.{Bool, ◌&&◌, cond, false, true}
 use mathlib.Core.List.{List}
-use mathlib.Core.Logic.{◌⊎◌, inl, inr}
+use mathlib.Core.Logic.{◌⊎◌, inl, inr, ⊎_elim}
 use mathlib.Core.Path.{◌≡◌, refl}
-use Prim.Native.Nat.{◌<◌, ◌≤◌, ℕ}
+use Prim.Native.Nat.{◌*◌, ◌+◌, ◌<◌, ◌≤◌, ℕ}
 use native.Mathlib.Omega.{arith}
 use borrow.Author.Tests.{eq-eqb, eqb-true, le-leb, leb-true, lt-ltb, ltb-true, ne_eqb}
 use lib.Dec.{eqb, ltb}
 use lib.ListN.{get_or}
 use Rattle.std.specs.Prelude.{Option, Some}
 use Rattle.paper.specs.declared.Record.{Record}
-use Rattle.paper.specs.Sound.{most_rows}
+use Rattle.paper.specs.Sound.{apart, most_rows}
 use Rattle.laws.proofs.Lists.{both_true}
 use Rattle.sound.specs.OneRecord.{before, given, if_few, of_both, product_rows, rows_by, single_rows, union_rows}
+use Rattle.sound.specs.Weights.{flag_in, rows_in}
 
 -- ---- tests that leave nothing where they fail
 pub given_some : {A : Type 0} {c : Bool} {found : Option A} {x : A} → given c found ≡ Some x → (c ≡ true) × (found ≡ Some x)
@@ -87,3 +88,23 @@ module _ (r : Record) (at : ℕ) (weights : List ℕ) where
         go false is false is' e' =
             let (is'', some) = given_some e' in
             inr (inr (eqb-true r.kind 3 is'', both (product_rows r.flag) some))
+
+    -- ---- few rows
+    pub rows_within : rows_by r at weights ≡ Some n → n ≤ most_rows
+    rows_within e = ⊎_elim of_single (⊎_elim of_union of_product) (has_rows e)
+      where
+        few : (c : Bool) (rows : ℕ) → given c (if_few rows) ≡ Some n → n ≤ most_rows
+        few c rows e' = let (most, is) = few_some {rows = rows} (given_some {c = c} e').1 in omega (arith, most, is)
+
+        of_single : (r.kind ≡ 1) × (single_rows r ≡ Some n) → n ≤ most_rows
+        of_single (kind, e') =
+            let some : Some 1 ≡ Some n = (given_some {c = eqb r.left 0 && eqb r.right 0} e').1 in
+            let one : 1 ≡ n = cc in
+            omega (arith, one)
+
+        of_union : (r.kind ≡ 2) × HasBoth (union_rows r.flag) → n ≤ most_rows
+        of_union (kind, (l, m, e')) = few (eqb (flag_in left) r.flag && eqb (flag_in right) r.flag) (rows_in left + rows_in right) e'
+
+        of_product : (r.kind ≡ 3) × HasBoth (product_rows r.flag) → n ≤ most_rows
+        of_product (kind, (l, m, e')) =
+            few (apart (flag_in left) (flag_in right) && eqb (flag_in left + flag_in right) r.flag) (rows_in left * rows_in right) e'

@@ -7,3 +7,4 @@ pub mod ImageRecords
 pub mod WritingTexts
 pub mod Copying
 pub mod TreeReplies
+pub mod Comments
