@@ -6,9 +6,9 @@ use mathlib.Core.Path.{◌≡◌, refl, sym, ◌∙◌, ap, subst}
 use Prim.Native.Nat.{ℕ}
 use native.Mathlib.Omega.{arith}
 use lib.ListN.{length}
-use Rattle.std.specs.Prelude.{Result}
+use Rattle.std.specs.Prelude.{Err, Result}
 use Rattle.paper.specs.declared.Refusal.{Refusal}
-use Rattle.paper.specs.Answers.{no_of, told}
+use Rattle.paper.specs.Answers.{no_of, says, told}
 use Rattle.paper.specs.BracketedText.{Writes}
 use Rattle.paper.specs.CanonicalText.{text_of}
 use Rattle.paper.specs.Conversions.{Conversion, Images, no_room, of_none, the_result}
@@ -24,7 +24,7 @@ use Rattle.writings.proofs.Texts.{one_tree}
 use Rattle.text.specs.Face.{Converts, MakesText, MakesTree}
 use Rattle.demands.specs.Conversions.{Cause, TextCause, TreeCause, conversion_order}
 use Rattle.demands.specs.Refused.{Exact}
-use Rattle.demands.proofs.Refusals.{exact_reply}
+use Rattle.demands.proofs.Refusals.{exact_reply, result_cases}
 
 -- ---- the law
 -- a number is replied exactly if it is that of the first cause that applies
@@ -62,9 +62,9 @@ module _ (Of : WrittenTree → Type 0) (result : WrittenTree → List ℕ) (one_
   )
 
   exact : (r : Result ℕ Refusal) (out' : List ℕ) → Converts (Conversion Of result (length out)) out r out'
-      → Exact no_of r (Alone (FirstOf conversion_order (Cause Of result (length out)))) (NoneOf conversion_order (Cause Of result (length out)))
+      → Exact no_of Err r (Alone (FirstOf conversion_order (Cause Of result (length out)))) (NoneOf conversion_order (Cause Of result (length out)))
   exact r out' c =
-      exact_reply no_of length c.reply r c.answer
+      exact_reply no_of Err (says no_of) (λ why. refl) (result_cases no_of) length c.reply r c.answer
       (λ n. (
         λ e. refuses Of result (length out) n (subst (Conversion Of result (length out)) e c.right),
         λ f. one_right Of result one_of_lem (length out) c.reply (refused n) c.right (first Of result (length out) n f),
@@ -84,7 +84,7 @@ module _ (text out : List ℕ) where
   one_text_to_tree = one_conversion (Writes text) image_bytes (one_tree text) out
 
   pub text_to_tree_exact : (r : Result ℕ Refusal) (out' : List ℕ) → MakesTree text out r out'
-      → Exact no_of r (Alone (FirstOf conversion_order (TreeCause text (length out)))) (NoneOf conversion_order (TreeCause text (length out)))
+      → Exact no_of Err r (Alone (FirstOf conversion_order (TreeCause text (length out)))) (NoneOf conversion_order (TreeCause text (length out)))
   text_to_tree_exact = exact (Writes text) image_bytes (one_tree text) out
 
 -- ---- tree to text
@@ -93,5 +93,5 @@ module _ (bytes out : List ℕ) where
   one_tree_to_text = one_conversion (Images bytes) text_of (one_image bytes) out
 
   pub tree_to_text_exact : (r : Result ℕ Refusal) (out' : List ℕ) → MakesText bytes out r out'
-      → Exact no_of r (Alone (FirstOf conversion_order (TextCause bytes (length out)))) (NoneOf conversion_order (TextCause bytes (length out)))
+      → Exact no_of Err r (Alone (FirstOf conversion_order (TextCause bytes (length out)))) (NoneOf conversion_order (TextCause bytes (length out)))
   tree_to_text_exact = exact (Images bytes) text_of (one_image bytes) out

@@ -6,7 +6,7 @@ use Prim.Native.Nat.{ℕ, ◌≤◌}
 use native.Mathlib.Omega.{arith}
 use lib.ListN.{drop, length, take}
 use lib.Seq.{take-append_seam}
-use Rattle.std.specs.Prelude.{Ok, Result}
+use Rattle.std.specs.Prelude.{Err, Ok, Result}
 use Rattle.paper.specs.declared.Head.{Head}
 use Rattle.paper.specs.declared.Refusal.{Refusal}
 use Rattle.paper.specs.declared.StreamRefusal.{StreamRefusal}
@@ -58,7 +58,7 @@ module _ (Of : WrittenTree → Type 0) (result : WrittenTree → List ℕ) (out 
 
   -- an output that no result is longer than is never refused
   roomy : ((w : WrittenTree) → Of w → length (result w) ≤ length out) → (r : Result ℕ Refusal) (out' : List ℕ)
-      → Converts (Conversion Of result (length out)) out r out' → Returns no_of r (no 10) → ⊥
+      → Converts (Conversion Of result (length out)) out r out' → Returns no_of Err r (no 10) → ⊥
   roomy fits r out' c (why, e, number) =
       go c.reply c.right ((told_refused length c.reply (no 10)).0 (sym c.answer ∙ ap says_converted e ∙ ap refused number))
     where
@@ -102,7 +102,7 @@ binary_text_binary bytes text text' n c out r out' d fits =
 -- a tree that was typed is one that `build` reads, with any query behind it that begins with none of the tree's kinds: never 1 or 2
 pub typed_tree_built : (text tree tree' : List ℕ) (n : ℕ) → MakesTree text tree (Ok n) tree' → (query : List ℕ)
     → tree_records (records_of query) ≡ [] → (work work' : List ℕ) (table table' : List Record) (r : Result Head StreamRefusal)
-    → Builds (take n tree' ++ query) work table r work' table' → (m : No) → Returns no_of_stream r m → 3 ≤ number_in m
+    → Builds (take n tree' ++ query) work table r work' table' → (m : No) → Returns no_of_stream Err r m → 3 ≤ number_in m
 typed_tree_built text tree tree' n c query begins work work' table table' r d m (why, e, number) =
     let a = the_answer (Writes text) image_bytes tree n tree' c in
     typed_never_refused a.tree (writes_allowed text a.tree a.of_tree) query begins (length work) (length table) m
@@ -112,9 +112,9 @@ typed_tree_built text tree tree' n c query begins work work' table table' r d m 
 
 -- ---- outputs that always suffice
 pub tree_room : (text out : List ℕ) → 8190 ≤ length out → (r : Result ℕ Refusal) (out' : List ℕ) → MakesTree text out r out'
-    → Returns no_of r (no 10) → ⊥
+    → Returns no_of Err r (no 10) → ⊥
 tree_room text out long = roomy (Writes text) image_bytes out (λ w g. omega (arith, image_short w (writes_allowed text w g)))
 
 pub text_room : (bytes out : List ℕ) → 8188 ≤ length out → (r : Result ℕ Refusal) (out' : List ℕ) → MakesText bytes out r out'
-    → Returns no_of r (no 10) → ⊥
+    → Returns no_of Err r (no 10) → ⊥
 text_room bytes out long = roomy (Images bytes) text_of out (λ w g. omega (arith, text_short w g.allowed))
