@@ -34,15 +34,17 @@ impl<'a> Handed<'a> {
     }
 
     // Hands all that the program tells of the input to standard output. The input is not read: the contract needs it, to say what is told.
-    // A write that fails is told in a line on standard error, unless the reader went away.
+    // The bytes are lent with `mut` and nothing is said of them afterwards, so that they are used up: to hand them on twice, also by a
+    // second count, a caller would have to make them anew. A write that fails is told in a line on standard error, unless the reader went
+    // away.
     pub(crate) fn hand_on(
         self,
         rt: &HostRuntime,
         descriptor: i32,
-        bytes: &[u8],
+        bytes: &mut [u8],
     ) -> Result<Self, Unwritten>
-        requires { Due descriptor self bytes.now }
-        ensures counted { IfOk result (λ after. after.bytes ≡ length bytes.now) }
+        requires { Due descriptor self bytes.old }
+        ensures counted { IfOk result (λ after. after.bytes ≡ length bytes.old) }
         ensures all { IfOk result (HandsOn self.entry.input.now) }
     {
         let written = match descriptor {

@@ -38,11 +38,13 @@ fn tell<'a>(rt: &HostRuntime, input: &'a [u8]) -> Result<Handed<'a>, Unwritten>
     let handed = Handed::nothing(input);
     let mut out = [0; LONGEST_IMAGE];
     match records_of(input, &mut out) {
-        Ok(bytes) => handed.hand_on(rt, STDOUT_FILENO, &out[..bytes]),
+        Ok(bytes) => handed.hand_on(rt, STDOUT_FILENO, &mut out[..bytes]),
         Err(why) => {
             let mut line: Text<LONGEST_REFUSAL> = Text::new();
             line.put_refusal(why.into());
-            handed.hand_on(rt, STDOUT_FILENO, line.as_slice())
+            let told = line.as_slice();
+            out[..told.len()].copy_from_slice(told);
+            handed.hand_on(rt, STDOUT_FILENO, &mut out[..told.len()])
         }
     }
 }
