@@ -27,16 +27,19 @@ bounded() { timeout "$patience" env --default-signal=PIPE "$@"; }
 # No contract says what a call of the system did, nor that the input named at a call is the one that was read (docs/PROMISES.md). So
 # each line of a program's code that calls the system, takes bytes, names the input or hands it down stands in tests/believed.txt too,
 # and each of any other room that calls the system: who changes one, or adds one, sees it here and reads on.
-# What calls the system has the handle that main is given, or calls a reader or a writer of std. What only names an array or a model does not.
-system='\b(std|io|libc|os|rt|HostRuntime|Read|Write|stdin|stdout|stderr)\b|\.(read|write|flush)(_all|_exact|_fmt|_vectored|_to_end|_to_string|_line|_until|_at)?\('
-plain=':use std::(array|marker::Model);$'
+# What calls the system has the handle that main is given, or calls a reader or a writer of std. Left out are the lines that only name an
+# array or a model, and the two calls of text's own `read_pad` and `read_branch`.
+system='\b(std|io|libc|os|rt|HostRuntime|Read|Write|stdin|stdout|stderr)\b|\.(read|write|flush)'
+plain=':(use std::(array|marker::Model)|[[:space:]]*writing\.read_(pad\(\)|branch\(\*label\)));$'
 # code_lines WORDS: the lines of code that have one of them, each behind its file
 code_lines() { grep -rE --include='*.rt' "$1" crates/*/src | grep -vE ":[[:space:]]*(//|requires|ensures|ghost)|$plain"; }
 read_lines() {
-    local calls='\b(tell|list|rows|put_line|pass_on|hand_on|read_full|Unwritten)\(' programs='^crates/(list|tree)/'
+    # a call or a head with its type parameters; the page and the count hold the input, and a text the bytes
+    local calls='\b(tell|set_of|list|rows|put_line|pass_on|hand_on|records_of|nothing|read_full|write_or_tell|Unwritten)(<[^(]*>)?\('
+    local bytes='&(mut )?\[u8|\bText<|\b(Page|Handed)\b' programs='^crates/(list|tree)/'
     {
         code_lines "$system" | grep -vE "$programs"
-        code_lines "$system|$calls|\binput\b|&\[u8\]" | grep -E "$programs"
+        code_lines "$system|$calls|\binput\b|$bytes" | grep -E "$programs"
     } | sort -s -t : -k 1,1 | sed -e 's|^crates/||' -e 's|/src/|/|'
 }
 same "the rooms that can call the system" <(code_lines "$system" | cut -d / -f 2 | sort -u) <(printf 'lines\nlist\ntree\n')
