@@ -79,15 +79,13 @@ module _ (h : Head) (table : List Record) (work : List ℕ) where
     kept = refl;
   }
 
-  module _ (fits : head_fits h (length table) ≡ true) (room : h.used ≤ length work) (all : Bool) (weighed : List ℕ)
-      (P : Passed h table work all weighed) (long : length weighed ≡ length work) where
-    head : HeadFits h (length table)
-    head = (says_head h (length table)).0 fits
-
+  -- the records are looked at only where the head fits
+  module _ (room : h.used ≤ length work) (all : Bool) (weighed : List ℕ) (P : head_fits h (length table) ≡ true → Passed h table work all weighed)
+      (long : length weighed ≡ length work) where
     -- once all records have passed, the set's test over the weights is that over the flags
-    module _ (W : Weighing h.arity h.nodes (used_of h table) h.used work weighed) where
+    module _ (places : h.arity ≤ 4) (W : Weighing h.arity h.nodes (used_of h table) h.used work weighed) where
       flag_of : (i : ℕ) → i < h.used → flag_in (get_or weighed i 0) ≡ (entry (used_of h table) i).flag
-      flag_of i l = ap flag_in (W.weighed i l) ∙ flag_in_lem _ _ (below_sixteen head.few_places (W.sound i l).test.flag_below)
+      flag_of i l = ap flag_in (W.weighed i l) ∙ flag_in_lem _ _ (below_sixteen places (W.sound i l).test.flag_below)
 
       says_set : (s : Set) → Says (set_fits h weighed s) (SetFits h (used_of h table) s)
       says_set empty = says_nothing
@@ -97,9 +95,10 @@ module _ (h : Head) (table : List Record) (work : List ℕ) where
           (λ (l, f). (l, sym (flag_of i l) ∙ f), λ (l, f). (l, flag_of i l ∙ f))
 
     -- what passes is sound
-    passes_sound : all ≡ true → set_fits h weighed h.set ≡ true → Sound h table
-    passes_sound passed set =
-        let W = P.passes passed in
+    passes_sound : head_fits h (length table) ≡ true → all ≡ true → set_fits h weighed h.set ≡ true → Sound h table
+    passes_sound fits passed set =
+        let head = (says_head h (length table)).0 fits in
+        let W = (P fits).passes passed in
         record {
           some_nodes = head.some_nodes;
           few_nodes = head.few_nodes;
@@ -110,36 +109,40 @@ module _ (h : Head) (table : List Record) (work : List ℕ) where
           used_there = head.used_there;
           records = λ i l. (W.sound i l).test;
           rows_within = λ i l. (W.sound i l).few;
-          set = (says_set W h.set).0 set;
+          set = (says_set head.few_places W h.set).0 set;
         }
 
     -- what is sound passes
-    sound_passes : Sound h table → (all ≡ true) × (set_fits h weighed h.set ≡ true)
-    sound_passes S = (passed, (says_set (P.passes passed) h.set).1 S.set)
+    sound_passes : Sound h table → (head_fits h (length table) ≡ true) × ((all ≡ true) × (set_fits h weighed h.set ≡ true))
+    sound_passes S = (fits, (passed, (says_set S.few_places ((P fits).passes passed) h.set).1 S.set))
       where
+        fits : head_fits h (length table) ≡ true
+        fits = head_of S
+
         passed : all ≡ true
         passed =
-            ⊎_elim (λ pass. pass) (λ fail. absurd (P.fails fail (λ k l. record { test = S.records k l; few = S.rows_within k l })))
+            ⊎_elim (λ pass. pass) (λ fail. absurd ((P fits).fails fail (λ k l. record { test = S.records k l; few = S.rows_within k l })))
             (which all)
 
-    judged : all && set_fits h weighed h.set ≡ sound h table
-    judged =
-        iff_eq _ _
-        (λ both. let (passed, set) = both_true all (set_fits h weighed h.set) both in is_sound h table (passes_sound passed set))
-        (λ is. let (passed, set) = sound_passes (sound_is h table is) in rw (passed, set))
+    module _ (fits : head_fits h (length table) ≡ true) where
+      judged : all && set_fits h weighed h.set ≡ sound h table
+      judged =
+          iff_eq _ _
+          (λ both. let (passed, set) = both_true all (set_fits h weighed h.set) both in is_sound h table (passes_sound fits passed set))
+          (λ is. let (head, (passed, set)) = sound_passes (sound_is h table is) in rw (passed, set))
 
-    -- the work of a sound set has the weights
-    sound_work : Sound h table → weighed ≡ over (weights h table) work
-    sound_work S =
-        let W = P.passes (sound_passes S).0 in
-        let there = weights_length h table S.used_there in
-        over_is (weights h table) work weighed (omega (arith, there, room)) long
-        (λ k l. let low : k < h.used = omega (arith, there, l) in W.weighed k low ∙ sym (weights_at h table S.used_there k low))
-        (λ k l. W.kept k (omega (arith, there, l)))
+      -- the work of a sound set has the weights
+      sound_work : Sound h table → weighed ≡ over (weights h table) work
+      sound_work S =
+          let W = (P fits).passes (sound_passes S).1.0 in
+          let there = weights_length h table S.used_there in
+          over_is (weights h table) work weighed (omega (arith, there, room)) long
+          (λ k l. let low : k < h.used = omega (arith, there, l) in W.weighed k low ∙ sym (weights_at h table S.used_there k low))
+          (λ k l. W.kept k (omega (arith, there, l)))
 
-    pub judges : (c : Bool) → c ≡ all && set_fits h weighed h.set → Judged h table work c weighed
-    judges c is = record {
-      right = is ∙ judged;
-      weighed = λ passes. sound_work (sound_is h table (sym (is ∙ judged) ∙ passes));
-      kept = zeros_agree work h.used weighed long P.kept;
-    }
+      pub judges : (c : Bool) → c ≡ all && set_fits h weighed h.set → Judged h table work c weighed
+      judges c is = record {
+        right = is ∙ judged;
+        weighed = λ passes. sound_work (sound_is h table (sym (is ∙ judged) ∙ passes));
+        kept = zeros_agree work h.used weighed long (P fits).kept;
+      }

@@ -6,8 +6,8 @@ use mathlib.Core.Logic.{⊎_elim}
 use mathlib.Core.Path.{◌∙◌, ◌≡◌, ap, refl, sym}
 use Prim.Native.Nat.{◌*◌, ◌+◌, ◌-◌, ◌<◌, ◌≤◌, max, ℕ}
 use native.Mathlib.Omega.{arith}
-use borrow.Author.Tests.{eq-eqb, ltb-false, ltb-true, ne_eqb}
-use lib.Dec.{ltb}
+use borrow.Author.Tests.{eq-eqb, leb-false, leb-true, ltb-false, ltb-true, ne_eqb}
+use lib.Dec.{leb, ltb}
 use lib.ListN.{drop, get_or, length, length-append}
 use Rattle.paper.specs.Lists.{◌∈◌}
 use Rattle.paper.specs.Refusals.{No, Test, answer, at_each, no_at, nodes_in, refused, tests_at, tree_end_tests, tree_part, tree_tests, unless, tree_end}
@@ -107,8 +107,8 @@ module _ (input : List ℕ) (at nodes now most : ℕ) (k : TreeSoFar input at no
         refused_label h = refused_here (label_over input at here few_before fits h)
 
         module _ (low : get_or input (at + 1) 0 ≤ 63) where
-          pub refused_branch : (get_or input at 0 ≡ 1 → ⊥) → now < 2 → refused (no_at 1 at) ≡ tree_reply input
-          refused_branch no_leaf h = refused_here (few_unjoined input at here few_before fits low no_leaf (omega (arith, k.unjoined_are)))
+          refused_low : (get_or input at 0 ≡ 1 → ⊥) → now < 2 → refused (no_at 1 at) ≡ tree_reply input
+          refused_low no_leaf h = refused_here (few_unjoined input at here few_before fits low no_leaf (omega (arith, k.unjoined_are)))
 
           all : records_between input 0 (after input at) ≡ before ++ (r ∷ [])
           all = between_more input 0 at k.before fits
@@ -138,6 +138,12 @@ module _ (input : List ℕ) (at nodes now most : ℕ) (k : TreeSoFar input at no
               goes_on (branch_passes input at here few_before fits low two_before) _ _
               (omega (arith, branch_fewer input at here no_leaf two_before, k.unjoined_are))
               (omega (arith, unjoined_most before, k.unjoined_are, k.most_is))
+
+        -- a branch that finds less than two subtrees, whatever its label is
+        pub refused_branch : (get_or input at 0 ≡ 1 → ⊥) → now < 2 → refused (no_at 1 at) ≡ tree_reply input
+        refused_branch no_leaf h =
+            ⊎_elim (λ low. refused_low (leb-true (get_or input (at + 1) 0) 63 low) no_leaf h)
+            (λ over. refused_label (leb-false (get_or input (at + 1) 0) 63 over)) (which (leb (get_or input (at + 1) 0) 63))
 
   -- ---- where the tree ends
   module _ (ends : is_tree_at input at ≡ false) where

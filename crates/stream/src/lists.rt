@@ -108,8 +108,12 @@ fn with_state(input: &[u8], at: usize, accepting: u16) -> u16
     requires { at < length input.now }
     ensures { AddsState input.now at accepting result }
 {
+    // The kind first: most records are rules, and of these nothing more is read.
+    if input[at] != ACCEPTING_STATE {
+        return accepting;
+    }
     let state = usize::from(byte_at(input, at + 1));
-    if input[at] == ACCEPTING_STATE && state < MOST_STATES {
+    if state < MOST_STATES {
         accepting | 1u16 << state
     } else {
         accepting

@@ -17,12 +17,12 @@ pub returns-then-weigh_records : goal.returns-then-weigh_records
 returns-then-weigh_records c =
     let a = c.args in
     let w = c.weigh_records in
-    judges a.head a.table.now a.work.now (sym c.if-not-head_fits.ensures) c.requires w.result w.new.work w.ensures w.auto.work _
+    judges a.head a.table.now a.work.now c.requires w.result w.new.work (λ _. w.ensures) w.auto.work (sym c.if-not-head_fits.ensures) _
     (c.set_fits.ensures ∙ ap (λ p. p && set_fits a.head w.new.work a.head.set) (sym c.if-weigh_records.true))
 
 pub returns-else-weigh_records : goal.returns-else-weigh_records
 returns-else-weigh_records c =
     let a = c.args in
     let w = c.weigh_records in
-    judges a.head a.table.now a.work.now (sym c.if-not-head_fits.ensures) c.requires w.result w.new.work w.ensures w.auto.work _
+    judges a.head a.table.now a.work.now c.requires w.result w.new.work (λ _. w.ensures) w.auto.work (sym c.if-not-head_fits.ensures) _
     (c.if-weigh_records.false ∙ ap (λ p. p && set_fits a.head w.new.work a.head.set) (sym c.if-weigh_records.false))

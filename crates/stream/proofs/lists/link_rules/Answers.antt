@@ -1,5 +1,5 @@
 -- A turn puts one more record's rule behind the last one of its symbol, and its accepting state in; behind the last record all is told.
-use Rattle.std.proofs.Common.{rules, ◌≡◌, ◌+◌, ◌∙◌, subst, arith}
+use Rattle.std.proofs.Common.{rules, ◌≡◌, ◌+◌, ◌<◌, ◌≤◌, ◌∙◌, length, subst, arith}
 use Rattle.stream.specs.Positions.{after}
 use Rattle.stream.proofs.AcceptingBits.{accepted_all, accepted_more, accepted_none}
 use Rattle.stream.proofs.Linking.{Going, cell_room, goes_on, goes_past, going_behind, going_ends, going_starts, last_before}
@@ -21,20 +21,20 @@ overflow_sub-at c = going_behind _ _ _ _ _ _ c.loop-at.invariant.0
 pub add_rule-requires-clause-symbol_in_bounds : goal.add_rule-requires-clause-symbol_in_bounds
 add_rule-requires-clause-symbol_in_bounds c =
     let k = c.loop-at.invariant.0 in
-    let here = c.loop-at-test.true in
+    let here : c.loop-at.at < length c.args.input.now = omega arith in
     let low = c.in-Some.ensures.0 in
     let before = last_before _ _ _ _ _ _ k here c.in-Some.symbol low in
     (omega (arith, low, k.long), omega (arith, before, cell_room _ _ _ _ _ _ k here c.requires.room))
 
 pub add_rule-requires-clause-cell_in_bounds : goal.add_rule-requires-clause-cell_in_bounds
 add_rule-requires-clause-cell_in_bounds c =
-    let here = c.loop-at-test.true in
+    let here : c.loop-at.at < length c.args.input.now = omega arith in
     (omega (arith, cell_room _ _ _ _ _ _ c.loop-at.invariant.0 here c.requires.room), omega arith)
 
 pub loop-at-preserved : goal.loop-at-preserved
 loop-at-preserved c =
     let k = c.loop-at.invariant in
-    let here = c.loop-at-test.true in
+    let here : c.loop-at.at < length c.args.input.now = omega arith in
     let past : c.loop-at.at + (1 + c.body_length.result) ≡ after c.args.input.now c.loop-at.at = omega (arith, c.body_length.ensures) in (
       elim c.match-symbol_at.branch [
         | in-Some w ↦
@@ -48,5 +48,5 @@ loop-at-preserved c =
 pub returns : goal.returns
 returns c =
     let k = c.loop-at.invariant in
-    let ended = c.loop-at-test.false in
+    let ended : length c.args.input.now ≤ c.loop-at.at = omega arith in
     going_ends _ _ _ _ _ _ k.0 ended c.requires.room _ (accepted_all _ _ _ _ k.1 ended)

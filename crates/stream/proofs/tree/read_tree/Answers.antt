@@ -6,7 +6,7 @@ use Rattle.stream.proofs.tree.read_tree.Goals as goal
 use Rattle.stream.proofs.tree.read_tree.Goals.{then-input-next-via-then-input-next, then-input-next-via-else-input-next+then-input-at-gt-HIGHEST_LABEL, then-input-at-eq-LEAF, else-input-at-eq-LEAF+else-unjoined-lt2}
 
 pub returns-then-nodes-ge-MOST_NODES : goal.returns-then-nodes-ge-MOST_NODES
-returns-then-nodes-ge-MOST_NODES c = refused_many _ _ _ _ _ c.loop-at.invariant (sym c.loop-at-test.ensures) c.if-nodes-ge-MOST_NODES.true
+returns-then-nodes-ge-MOST_NODES c = refused_many _ _ _ _ _ c.loop-at.invariant (sym c.loop-at-test.ensures) (omega (arith, c.if-nodes-ge-MOST_NODES.true))
 
 pub returns-then-input-next : goal.returns-then-input-next
 returns-then-input-next c = elim c.then-input-next.branch [
@@ -15,7 +15,7 @@ returns-then-input-next c = elim c.then-input-next.branch [
       (omega (arith, c.body_length.ensures, w.if-input-next.true))
   | then-input-next-via-else-input-next+then-input-at-gt-HIGHEST_LABEL w ↦
       refused_label _ _ _ _ _ c.loop-at.invariant (sym c.loop-at-test.ensures) c.if-nodes-ge-MOST_NODES.false
-      (omega (arith, c.body_length.ensures, w.if-input-next.false)) w.if-input-at-gt-HIGHEST_LABEL.true
+      (omega (arith, c.body_length.ensures, w.if-input-next.false)) (omega (arith, w.if-input-at-gt-HIGHEST_LABEL.true))
 ]
 
 pub overflow_add-unjoined : goal.overflow_add-unjoined
@@ -24,7 +24,7 @@ overflow_add-unjoined c = omega (arith, now_nodes _ _ _ _ _ c.loop-at.invariant)
 pub returns-then-unjoined-lt2 : goal.returns-then-unjoined-lt2
 returns-then-unjoined-lt2 c =
     refused_branch _ _ _ _ _ c.loop-at.invariant (sym c.loop-at-test.ensures) c.if-nodes-ge-MOST_NODES.false
-    (omega (arith, c.body_length.ensures)) c.if-input-at-gt-HIGHEST_LABEL.false c.if-input-at-eq-LEAF.false c.if-unjoined-lt2.true
+    (omega (arith, c.body_length.ensures)) c.if-input-at-eq-LEAF.false c.if-unjoined-lt2.true
 
 pub loop-at-preserved : goal.loop-at-preserved
 loop-at-preserved c =
