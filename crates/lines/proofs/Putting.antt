@@ -23,7 +23,7 @@ module _ (size : ℕ) (bytes text : List ℕ) where
   put_left_out full = rw (lt-leb (length text + length bytes) size full)
 
 -- ---- a line
-length_fact : (word : List ℕ) (n : ℕ) → length (fact_text word n) ≡ length word + length (number_text n) + 1
+pub length_fact : (word : List ℕ) (n : ℕ) → length (fact_text word n) ≡ length word + length (number_text n) + 1
 length_fact word n = omega (arith, length-append word (number_text n ++ (10 ∷ [])), length-append (number_text n) (10 ∷ []))
 
 pub fact_short : (word : List ℕ) (n : ℕ) → length (fact_text word n) ≤ length word + longest_number + 1

@@ -1,3 +1,4 @@
 pub mod Bounds
 pub mod Text
 pub mod Put
+pub mod PutAt

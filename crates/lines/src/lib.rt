@@ -1,6 +1,7 @@
-// Text in a buffer of fixed size: a byte, a number, a line of a word and a number, the line of a refusal, each put behind what stands
-// there. Both programs write with these. A word, a number or a byte that has no room is left out whole, so none asks for anything; who
-// has the room knows that all stands there (proofs/Putting.antt). Last, how both programs read and write.
+// Text in a buffer: a byte, a number, a line of a word and a number, the line of a refusal, each put behind the first `at` bytes of the
+// buffer or, in a `Text`, whose buffer has a fixed size, behind what stands there. Both programs write with a `Text`. A word, a number or
+// a byte that has no room is left out whole, so none asks for anything; who has the room knows that all stands there
+// (proofs/PuttingAt.antt; of a `Text` proofs/Putting.antt). Last, how both programs read and write.
 #![tactic(auto)]
 
 ghost use Rattle.std.specs.Prelude.{[], ◌∷◌, ◌≡◌, ◌+◌, ◌≤◌, length, take, OnOk};
@@ -8,6 +9,7 @@ ghost use Rattle.std.specs.Io.KnownBytes.{Appends, Consumes};
 ghost use Rattle.io.specs.Counts.{IsPrefixLen};
 ghost use Rattle.paper.specs.Answers.{no_of_stream};
 ghost use Rattle.lines.specs.Put.{put, put_fact, put_refusal};
+ghost use Rattle.lines.specs.PutAt.{put_at, put_fact_at, put_refusal_at};
 ghost use Rattle.lines.specs.Text.{number_text};
 
 use paper::StreamRefusal;
@@ -72,55 +74,98 @@ impl<const SIZE: usize> Text<SIZE> {
         self.length = 0;
     }
 
-    // Any bytes.
-    fn put_word(&mut self, word: &[u8])
-        ensures { self.new ≡ put SIZE word.now self.old }
-    {
-        if word.len() <= self.room() {
-            let end = self.length + word.len();
-            let buffer = &mut self.buffer[..];
-            buffer[self.length..end].copy_from_slice(word);
-            self.length = end;
-        }
-    }
-
     // The end of a line, or a space.
     pub fn put_byte(&mut self, byte: u8)
         ensures { self.new ≡ put SIZE (byte ∷ []) self.old }
     {
-        self.put_word(&[byte]);
+        self.length = put_byte(&mut self.buffer, self.length, byte);
     }
 
     // A number in decimal digits.
     pub fn put_number(&mut self, number: u64)
         ensures { self.new ≡ put SIZE (number_text number) self.old }
     {
-        let mut digits = [0u8; LONGEST_NUMBER];
-        let count = io::decimal(number, &mut digits);
-        self.put_word(&digits[..count]);
+        self.length = put_number(&mut self.buffer, self.length, number);
     }
 
     // A word, a number and the end of the line.
     pub fn put_fact(&mut self, word: &[u8], number: u64)
         ensures { self.new ≡ put_fact SIZE word.now number self.old }
     {
-        self.put_word(word);
-        self.put_number(number);
-        self.put_byte(b'\n');
+        self.length = put_fact(&mut self.buffer, self.length, word, number);
     }
 
     // The line of a refusal: its number, and the position if it has one.
-    // Not `write!`: its contract says which bytes it puts where it answers `Ok`, and never that it does, so that with room the line
-    // could not be shown to stand there, nor what stands there without.
     pub fn put_refusal(&mut self, why: StreamRefusal)
         ensures { self.new ≡ put_refusal SIZE (no_of_stream why) self.old }
     {
-        self.put_word(REFUSED);
-        self.put_number(u64::from(why.number()));
-        match why.position() {
-            Some(at) => self.put_fact(AT, at as u64),
-            None => self.put_byte(b'\n'),
-        }
+        self.length = refusal_behind(&mut self.buffer, self.length, why);
+    }
+}
+
+// Any bytes. As the others that are handed a buffer and `at`, this puts them behind its first `at` bytes and answers how many there are
+// then; what stands behind them stays.
+fn put_word(text: &mut [u8], at: usize, word: &[u8]) -> usize
+    ensures { put_at word.now (at, text.old) ≡ (result, text.new) }
+{
+    if text.len() < at {
+        return at;
+    }
+    if text.len() - at < word.len() {
+        return at;
+    }
+    let end = at + word.len();
+    text[at..end].copy_from_slice(word);
+    end
+}
+
+// The end of a line, or a space.
+pub fn put_byte(text: &mut [u8], at: usize, byte: u8) -> usize
+    ensures { put_at (byte ∷ []) (at, text.old) ≡ (result, text.new) }
+{
+    if text.len() <= at {
+        return at;
+    }
+    text[at] = byte;
+    at + 1
+}
+
+// A number in decimal digits.
+pub fn put_number(text: &mut [u8], at: usize, n: u64) -> usize
+    ensures { put_at (number_text n) (at, text.old) ≡ (result, text.new) }
+{
+    let mut digits = [0u8; LONGEST_NUMBER];
+    let count = io::decimal(n, &mut digits);
+    put_word(text, at, &digits[..count])
+}
+
+// A word, a number and the end of the line.
+pub fn put_fact(text: &mut [u8], at: usize, word: &[u8], n: u64) -> usize
+    ensures { put_fact_at word.now n (at, text.old) ≡ (result, text.new) }
+{
+    let number = put_word(text, at, word);
+    let end = put_number(text, number, n);
+    put_byte(text, end, b'\n')
+}
+
+// The line of a refusal, from the start of the buffer, since a program that refuses tells nothing else.
+pub fn put_refusal(text: &mut [u8], why: StreamRefusal) -> usize
+    ensures { put_refusal_at (no_of_stream why) (0, text.old) ≡ (result, text.new) }
+{
+    refusal_behind(text, 0, why)
+}
+
+// The line of a refusal: its number, and the position if it has one.
+// Not `write!`: its contract says which bytes it puts where it answers `Ok`, and never that it does, so that with room the line
+// could not be shown to stand there, nor what stands there without.
+fn refusal_behind(text: &mut [u8], at: usize, why: StreamRefusal) -> usize
+    ensures { put_refusal_at (no_of_stream why) (at, text.old) ≡ (result, text.new) }
+{
+    let word = put_word(text, at, REFUSED);
+    let number = put_number(text, word, u64::from(why.number()));
+    match why.position() {
+        Some(position) => put_fact(text, number, AT, position as u64),
+        None => put_byte(text, number, b'\n'),
     }
 }
 

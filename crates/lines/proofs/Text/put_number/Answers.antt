@@ -1,12 +1,14 @@
--- `put_number` puts the digits that `io::decimal` makes.
-use Rattle.std.proofs.Common.{List, ℕ, ap, ◌∙◌, rules}
-use Rattle.lines.specs.Put.{put}
-use Rattle.lines.proofs.Numbers.{decimal_text}
+-- What `put_number` puts behind the first bytes of the buffer, it puts behind the text.
+use Rattle.std.proofs.Common.{arith, refl}
+use Rattle.lines.proofs.PuttingAt.{shows_put}
 use Rattle.lines.proofs.Text.put_number.Goals as goal
+
+pub invariant_of-self : goal.invariant_of-self
+invariant_of-self g c =
+    (shows_put g.row.SIZE _ _ _ (record { long = c.self.told; within = omega arith; shown = refl })
+    c.put_number-self-inside.ensures).within
 
 pub returns : goal.returns
 returns g c =
-    let made = c.decimal-count in
-    c.put_word.ensures
-    ∙ ap (λ (w : List ℕ). put g.row.SIZE w c.args.self.now)
-    (decimal_text c.args.number made.result made.new.out (search rules) made.ensures.len made.ensures.digits)
+    (shows_put g.row.SIZE _ _ _ (record { long = c.self.told; within = c.self.invariant; shown = c.self.view_is })
+    c.put_number-self-inside.ensures).shown
