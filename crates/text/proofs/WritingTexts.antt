@@ -13,7 +13,7 @@ use Rattle.paper.specs.Conversions.{Images}
 use Rattle.paper.specs.WrittenTree.{WrittenTree, forest_of}
 use Rattle.writings.proofs.CanonicalTexts.{text_length}
 use Rattle.writings.proofs.Images.{read_image_lem}
-use Rattle.text.specs.declared.canonical.Waiting.TheVariants.{Others, Children, Inside}
+use Rattle.text.specs.declared.canonical.Waiting.TheVariants.{Others, Children, LastChildren, Inside}
 use Rattle.text.specs.JudgeImage.{accepts_image, image_judged, nothing_read}
 use Rattle.text.specs.WriteText.{Waiting, completed, met, missing, step_of, text_before}
 use Rattle.text.specs.Writing.{Fits, Writing, after}
@@ -24,19 +24,22 @@ use Rattle.text.proofs.WrittenTexts.{branches_in, image_branches, reverse-image,
 length-completed : (ws : List Waiting) → length (completed ws).0 ≤ length ws
 length-completed [] = omega arith
 length-completed (Others l ∷ ws) = omega arith
-length-completed (Children l b ∷ ws) = omega arith
+length-completed (Children l ∷ ws) = omega arith
+length-completed (LastChildren l ∷ ws) = omega arith
 length-completed (Inside l ∷ ws) = omega (arith, length-completed ws)
 
 length-missing : (ws : List Waiting) → length (missing ws).0 ≤ length ws
 length-missing [] = omega arith
 length-missing (Others l ∷ ws) = omega arith
-length-missing (Children l b ∷ ws) = omega (arith, length-completed ws)
+length-missing (Children l ∷ ws) = omega (arith, length-completed ws)
+length-missing (LastChildren l ∷ ws) = omega (arith, length-completed ws)
 length-missing (Inside l ∷ ws) = omega arith
 
 length-met : (l : ℕ) (ws : List Waiting) → length (met l ws).0 ≡ suc (length ws)
 length-met l [] = refl
 length-met l (Others m ∷ ws) = refl
-length-met l (Children m b ∷ ws) = refl
+length-met l (Children m ∷ ws) = refl
+length-met l (LastChildren m ∷ ws) = refl
 length-met l (Inside m ∷ ws) = refl
 
 -- ---- what the loop keeps up

@@ -9,7 +9,7 @@ use Rattle.paper.specs.WrittenTree.{Forest, nil, tree, WrittenTree, forest_nodes
 use Rattle.paper.specs.BracketedText.{decimal}
 use Rattle.paper.specs.CanonicalText.{bracketed, between, forest_text, text_of}
 use Rattle.paper.specs.Image.{forest_bytes, image_bytes}
-use Rattle.text.specs.declared.canonical.Waiting.TheVariants.{Others, Children, Inside}
+use Rattle.text.specs.declared.canonical.Waiting.TheVariants.{Others, Children, LastChildren, Inside}
 use Rattle.text.specs.WriteText.{Waiting, blank_if, completed, text_before}
 
 -- the image's bytes from the last to the first
@@ -31,12 +31,17 @@ blank_between nil nil = refl
 blank_between nil (tree l c s) = refl
 blank_between (tree l c s) t = refl
 
+-- a node that waits for its children, by whether it has others
+abbrev children : ℕ → Bool → Waiting
+children l true = Children l
+children l false = LastChildren l
+
 -- what is written for a forest where a node waits for its others, and where one waits for its children
 record Back (f : Forest) : Type 0 where
   as_others : (l : ℕ) (ws : List Waiting) (bytes : List ℕ)
-      → text_before (Others l ∷ ws) (bytes_back f ++ bytes) ≡ text_before (Children l (some f) ∷ ws) bytes ++ forest_text f
+      → text_before (Others l ∷ ws) (bytes_back f ++ bytes) ≡ text_before (children l (some f) ∷ ws) bytes ++ forest_text f
   as_children : (l : ℕ) (b : Bool) (ws : List Waiting) (bytes : List ℕ)
-      → text_before (Children l b ∷ ws) (bytes_back f ++ bytes)
+      → text_before (children l b ∷ ws) (bytes_back f ++ bytes)
       ≡ text_before (completed ws).0 bytes ++ ((completed ws).1 ++ (decimal l ++ (bracketed f (forest_text f) ++ blank_behind f b)))
 
 -- a tree's others and then its children are read
@@ -55,12 +60,26 @@ both_read m c s hc hs ws bytes =
 brackets_written : (x y d t : List ℕ) → (x ++ ((y ++ (d ++ (40 ∷ []))) ++ t)) ++ (41 ∷ []) ≡ x ++ (y ++ (d ++ ((40 ∷ (t ++ (41 ∷ []))) ++ [])))
 brackets_written x y d t = simp (append_assoc, append-nil)
 
+-- the first record read of a forest, where a node waits for its children
+pad_read : (l : ℕ) (b : Bool) (ws : List Waiting) (bytes : List ℕ)
+    → text_before (children l b ∷ ws) (bytes_back nil ++ bytes)
+    ≡ text_before (completed ws).0 bytes ++ ((completed ws).1 ++ (decimal l ++ blank_if b))
+pad_read l true ws bytes = refl
+pad_read l false ws bytes = refl
+
+branch_read : (m : ℕ) (c s : Forest) (l : ℕ) (b : Bool) (ws : List Waiting) (bytes : List ℕ)
+    → text_before (children l b ∷ ws) (bytes_back (tree m c s) ++ bytes)
+    ≡ text_before (Others m ∷ Inside l ∷ ws) ((bytes_back s ++ bytes_back c) ++ bytes) ++ (41 ∷ [])
+branch_read m c s l true ws bytes = refl
+branch_read m c s l false ws bytes = refl
+
 forest_back : (f : Forest) → Back f
-forest_back nil = record { as_others = λ l ws bytes. refl; as_children = λ l b ws bytes. refl }
+forest_back nil = record { as_others = λ l ws bytes. refl; as_children = λ l b ws bytes. pad_read l b ws bytes }
 forest_back (tree m c s) = let hc = forest_back c in let hs = forest_back s in record {
   as_others = λ l ws bytes. append-nil _ ∙ both_read m c s hc hs (Others l ∷ ws) bytes;
   as_children = λ l b ws bytes.
-      ap (λ x. x ++ (41 ∷ [])) (both_read m c s hc hs (Inside l ∷ ws) bytes)
+      branch_read m c s l b ws bytes
+      ∙ ap (λ x. x ++ (41 ∷ [])) (both_read m c s hc hs (Inside l ∷ ws) bytes)
       ∙ brackets_written (text_before (completed ws).0 bytes) (completed ws).1 (decimal l) (forest_text (tree m c s));
 }
 

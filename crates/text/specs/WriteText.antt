@@ -3,7 +3,7 @@
 use Rattle.std.specs.Prelude.{Bool, true, false, cond, List, [], ◌∷◌, ◌++◌, ℕ, eqb}
 use Rattle.paper.specs.BracketedText.{decimal}
 pub use Rattle.text.specs.declared.canonical.Waiting.{Waiting}
-use Rattle.text.specs.declared.canonical.Waiting.TheVariants.{Others, Children, Inside}
+use Rattle.text.specs.declared.canonical.Waiting.TheVariants.{Others, Children, LastChildren, Inside}
 
 abbrev pub blank_if : Bool → List ℕ
 blank_if b = cond b (32 ∷ []) []
@@ -16,16 +16,18 @@ childless l others = decimal l ++ blank_if others
 -- What waits then, and what is written before it. (In an image no node but the last waits for its children.)
 abbrev pub completed : List Waiting → List Waiting × List ℕ
 completed [] = ([], [])
-completed (Others l ∷ ws) = (Children l true ∷ ws, [])
-completed (Children l b ∷ ws) = (Children l true ∷ ws, [])
+completed (Others l ∷ ws) = (Children l ∷ ws, [])
+completed (Children l ∷ ws) = (Children l ∷ ws, [])
+completed (LastChildren l ∷ ws) = (Children l ∷ ws, [])
 completed (Inside l ∷ ws) = ((completed ws).0, (completed ws).1 ++ (decimal l ++ (40 ∷ [])))
 
 -- a pad: the last node that waits has no others, or it has no children and is complete. (In an image no node that waits is inside its
 -- brackets then.)
 abbrev pub missing : List Waiting → List Waiting × List ℕ
 missing [] = ([], [])
-missing (Others l ∷ ws) = (Children l false ∷ ws, [])
-missing (Children l b ∷ ws) = ((completed ws).0, (completed ws).1 ++ childless l b)
+missing (Others l ∷ ws) = (LastChildren l ∷ ws, [])
+missing (Children l ∷ ws) = ((completed ws).0, (completed ws).1 ++ childless l true)
+missing (LastChildren l ∷ ws) = ((completed ws).0, (completed ws).1 ++ childless l false)
 missing (Inside l ∷ ws) = (ws, [])
 
 -- a branch: the root, the last of the others of the last node that waits, or of its children, behind which its brackets are closed. (In
@@ -33,7 +35,8 @@ missing (Inside l ∷ ws) = (ws, [])
 abbrev pub met : ℕ → List Waiting → List Waiting × List ℕ
 met m [] = (Others m ∷ [], [])
 met m (Others l ∷ ws) = (Others m ∷ Others l ∷ ws, [])
-met m (Children l b ∷ ws) = (Others m ∷ Inside l ∷ ws, 41 ∷ [])
+met m (Children l ∷ ws) = (Others m ∷ Inside l ∷ ws, 41 ∷ [])
+met m (LastChildren l ∷ ws) = (Others m ∷ Inside l ∷ ws, 41 ∷ [])
 met m (Inside l ∷ ws) = (Others m ∷ Inside l ∷ ws, [])
 
 -- a pad, or a branch

@@ -15,35 +15,40 @@ use paper::limits::MOST_WRITTEN_NODES;
 // A written node is at most two digits and two brackets, or a blank instead of these.
 const LONGEST_NODE: usize = 4;
 
-const LONGEST_TEXT: usize = MOST_WRITTEN_NODES * LONGEST_NODE;
+pub(crate) const LONGEST_TEXT: usize = MOST_WRITTEN_NODES * LONGEST_NODE;
 
-// A node, by its label, and what of it is still to come.
+// A node, by its label, and what of it is still to come. A bool beside the children would make three bytes of it for two, and so a
+// third more of what is moved for each record.
 #[derive(Clone, Copy, Debug, PartialEq, Eq)]
 enum Waiting {
     // Its others.
     Others(u8),
-    // Its children, and whether it has others.
-    Children(u8, bool),
+    // Its children; it has others.
+    Children(u8),
+    // Its children; it has no others.
+    LastChildren(u8),
     // The rest of its children, inside its brackets.
     Inside(u8),
 }
 
 // The nodes that wait, and what is written of the text.
 #[derive(Drop)]
-struct Writing {
-    waiting: Stack<Waiting, MOST_WRITTEN_NODES>,
-    text: Stack<u8, LONGEST_TEXT>,
+struct Writing<'w, 't> {
+    waiting: Stack<'w, Waiting, MOST_WRITTEN_NODES>,
+    text: Stack<'t, u8, LONGEST_TEXT>,
 }
 
-impl Writing {
+impl Writing<'_, '_> {
     // A label in decimal. Labels have at most two digits.
     fn put_label(&mut self, label: u8)
         requires { length (decimal label) + length self.old.text ≤ longest_text }
         ensures waiting { self.new.waiting ≡ self.old.waiting }
         ensures text { self.new.text ≡ decimal label ++ self.old.text }
     {
-        self.text.push(b'0' + label % BASE);
-        if BASE <= label {
+        if label < BASE {
+            self.text.push(b'0' + label);
+        } else {
+            self.text.push(b'0' + label % BASE);
             self.text.push(b'0' + label / BASE);
         }
     }
@@ -60,10 +65,11 @@ impl Writing {
                     self.text.push(b'(');
                     self.put_label(label);
                 }
-                Waiting::Others(label) | Waiting::Children(label, _) => {
-                    self.waiting.push(Waiting::Children(label, true));
-                    return;
-                }
+                Waiting::Others(label) | Waiting::Children(label) | Waiting::LastChildren(label) =>
+                    {
+                        self.waiting.push(Waiting::Children(label));
+                        return;
+                    }
             }
         }
     }
@@ -74,11 +80,13 @@ impl Writing {
         ensures { self.new ≡ after (missing self.old.waiting) self.old }
     {
         match self.waiting.pop() {
-            Some(Waiting::Others(label)) => self.waiting.push(Waiting::Children(label, false)),
-            Some(Waiting::Children(label, others)) => {
-                if others {
-                    self.text.push(b' ');
-                }
+            Some(Waiting::Others(label)) => self.waiting.push(Waiting::LastChildren(label)),
+            Some(Waiting::Children(label)) => {
+                self.text.push(b' ');
+                self.put_label(label);
+                self.complete();
+            }
+            Some(Waiting::LastChildren(label)) => {
                 self.put_label(label);
                 self.complete();
             }
@@ -95,7 +103,7 @@ impl Writing {
         ensures { self.new ≡ after (met label self.old.waiting) self.old }
     {
         match self.waiting.pop() {
-            Some(Waiting::Children(parent, _)) => {
+            Some(Waiting::Children(parent) | Waiting::LastChildren(parent)) => {
                 self.text.push(b')');
                 self.waiting.push(Waiting::Inside(parent));
             }
@@ -108,13 +116,17 @@ impl Writing {
 }
 
 // All of an image. The root stands in the last record, and waits first.
-pub(crate) fn write_text(tree: &[u8]) -> Stack<u8, LONGEST_TEXT>
+pub(crate) fn write_text<'t>(
+    tree: &[u8],
+    text: &'t mut [u8; LONGEST_TEXT],
+) -> Stack<'t, u8, LONGEST_TEXT>
     requires { accepts_image (image_judged nothing_read tree.now) ≡ true }
     ensures { WritesText tree.now result }
 {
+    let mut nodes = [Waiting::Others(0); MOST_WRITTEN_NODES];
     let mut writing = Writing {
-        waiting: Stack::new(Waiting::Others(0)),
-        text: Stack::new(0),
+        waiting: Stack::new(&mut nodes),
+        text: Stack::new(text),
     };
     let mut rest = tree;
     // Ends before the first record: a turn goes over one.

@@ -12,7 +12,7 @@ mod stack;
 mod tokens;
 
 use crate::bytes::copy_to_start;
-use crate::canonical::write_text;
+use crate::canonical::{LONGEST_TEXT, write_text};
 use crate::image::{RECORD, is_image};
 use crate::pass::read_text;
 use paper::Refusal;
@@ -35,6 +35,7 @@ pub fn tree_to_text(tree: &[u8], out: &mut [u8]) -> Result<usize, Refusal>
     if !is_image(tree) {
         return Err(Refusal::Text);
     }
-    let text = write_text(tree);
+    let mut bytes = [0; LONGEST_TEXT];
+    let text = write_text(tree, &mut bytes);
     copy_to_start(text.as_slice(), out)
 }

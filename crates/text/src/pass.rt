@@ -1,15 +1,18 @@
 // The pass over a text, from its first byte to its last.
 ghost use Rattle.std.specs.Prelude.{◌≡◌, cond, ◌+◌, ◌*◌};
 ghost use Rattle.std.proofs.Math.Option.{none, some};
+ghost use Rattle.paper.specs.BracketedText.{Comment};
 ghost use Rattle.writings.specs.ReadText.{symbol_of};
 ghost use Rattle.text.specs.Pass.{after_byte, after_symbol, image_of_text, one_more};
 ghost use Rattle.text.specs.Reading.{answered, state_behind, state_in};
 ghost use Rattle.text.specs.Told.{told};
 
+use crate::LONGEST_IMAGE;
 use crate::bytes::BASE;
+use crate::records::Label;
 use crate::tokens::{Fault, Kept};
 use paper::Refusal;
-use paper::limits::HIGHEST_LABEL;
+use paper::limits::{HIGHEST_LABEL, MOST_WRITTEN_NODES};
 
 // Where the reading stands: between tokens, in a number that is this so far, in a comment.
 #[derive(Clone, Copy, Debug, PartialEq, Eq)]
@@ -34,6 +37,8 @@ fn with_digit(number: u8, digit: u8) -> Result<u8, Fault>
 }
 
 // A byte between tokens that is no digit. A slash is simply a wrong character.
+// Inlined, so that what is kept of the tokens stays in registers from byte to byte.
+#[inline(always)]
 fn read_symbol(byte: u8, kept: &mut Kept) -> Result<Mode, Fault>
     ensures { state_behind result kept.new ≡ after_symbol (symbol_of byte) kept.old }
 {
@@ -64,14 +69,39 @@ fn read_byte(mode: Mode, byte: u8, kept: &mut Kept) -> Result<Mode, Fault>
     }
 }
 
+// Where a comment ends that has begun before this text: at the next line end, which is not part of it, or at the text's end. In a loop
+// of its own, since most bytes of a text may be comment.
+fn comment_end(text: &[u8]) -> &[u8]
+    ensures { Comment text.now result.now }
+{
+    let mut rest = text;
+    // Ends with the text at the latest: a turn goes over one byte.
+    while let [byte, behind @ ..] = rest {
+        if *byte == b'\n' {
+            return rest;
+        }
+        rest = behind;
+    }
+    rest
+}
+
 // The image of the tree that a text writes. What stands behind a fault is not read, since it mends nothing.
 pub(crate) fn read_text(text: &[u8], out: &mut [u8]) -> Result<usize, Refusal>
     ensures { (result, out.new) ≡ told (image_of_text text.now) out.old }
 {
+    let mut labels = [Label::BLANK; MOST_WRITTEN_NODES];
+    let mut bytes = [0; LONGEST_IMAGE];
+    let mut kept = Kept::new(&mut labels, &mut bytes);
     let mut mode = Mode::Outside;
-    let mut kept = Kept::new();
-    for &byte in text {
-        mode = read_byte(mode, byte, &mut kept)?;
+    let mut rest = text;
+    // Ends behind the text: a turn goes over one byte, and over the comment that it begins.
+    while let [byte, behind @ ..] = rest {
+        mode = read_byte(mode, *byte, &mut kept)?;
+        rest = behind;
+        if let Mode::Comment = mode {
+            rest = comment_end(behind);
+            mode = Mode::Outside;
+        }
     }
     if let Mode::Number(number) = mode {
         kept.put_number(number)?;

@@ -18,45 +18,50 @@ pub(crate) struct Label {
     pub(crate) is_open: bool,
 }
 
-// The last read before the others.
-pub(crate) type Labels = Stack<Label, MOST_WRITTEN_NODES>;
-
-// So many bytes of the array are the image by now.
-#[derive(Drop)]
-pub(crate) struct Image {
-    bytes: [u8; LONGEST_IMAGE],
-    length: usize,
+impl Label {
+    // What an array of labels is filled with before one waits.
+    pub(crate) const BLANK: Label = Label {
+        number: 0,
+        is_open: false,
+    };
 }
 
-impl Model for Image {
-    ghost use Rattle.std.specs.Prelude.{List, ℕ, ◌≤◌, take};
+// The last read before the others.
+pub(crate) type Labels<'a> = Stack<'a, Label, MOST_WRITTEN_NODES>;
+
+// So many bytes of the array, which is lent, are the image by now.
+#[derive(Drop)]
+pub(crate) struct Image<'a> {
+    bytes: &'a mut [u8; LONGEST_IMAGE],
+    end: usize,
+}
+
+impl<'a> Model for Image<'a> {
+    ghost use Rattle.std.specs.Prelude.{List, ℕ, ◌≡◌, ◌≤◌, length, take};
     ghost use Rattle.text.specs.Bounds.{longest_image};
 
     ghost Value = { List ℕ };
 
-    ghost view = { λ i. take i.length i.bytes };
+    ghost view = { λ i. take i.end i.bytes.now };
 
-    ghost invariant = { λ i. i.length ≤ longest_image };
+    ghost invariant = { λ i. (i.end ≤ longest_image) × (length i.bytes.now ≡ longest_image) };
 }
 
-impl Image {
-    pub(crate) fn new() -> Self
+impl<'a> Image<'a> {
+    pub(crate) fn new(bytes: &'a mut [u8; LONGEST_IMAGE]) -> Self
         ensures { result ≡ [] }
     {
-        Image {
-            bytes: [0; LONGEST_IMAGE],
-            length: 0,
-        }
+        Image { bytes, end: 0 }
     }
 
     fn put(&mut self, kind: u8, label: u8)
         requires { length self.old + 2 ≤ longest_image }
         ensures { self.new ≡ self.old ++ kind ∷ label ∷ [] }
     {
-        let end = self.length;
+        let end = self.end;
         self.bytes[end] = kind;
         self.bytes[end + 1] = label;
-        self.length = end + RECORD;
+        self.end = end + RECORD;
     }
 
     // The pad of a number that turns out to have no brackets.
@@ -72,7 +77,7 @@ impl Image {
     pub(crate) fn as_slice(&self) -> &[u8]
         ensures { result.now ≡ self.now }
     {
-        &self.bytes[..self.length]
+        &self.bytes[..self.end]
     }
 }
 

@@ -4,32 +4,30 @@ ghost use Rattle.text.specs.Stack.{top_of, below_top};
 
 use std::marker::Model;
 
-// At most `N` items. They stand at the end of the array, the last one put before the others.
+// At most `N` items, in an array that is lent: so a stack is handed on without them. They stand at the array's end, the last one put
+// before the others.
 #[derive(Drop)]
-pub(crate) struct Stack<T, const N: usize> {
-    items: [T; N],
+pub(crate) struct Stack<'a, T, const N: usize> {
+    items: &'a mut [T],
     first: usize,
 }
 
-impl<T, const N: usize> Model for Stack<T, N> {
-    ghost use Rattle.std.specs.Prelude.{List, ◌≤◌, drop};
+impl<'a, T, const N: usize> Model for Stack<'a, T, N> {
+    ghost use Rattle.std.specs.Prelude.{List, ◌≡◌, ◌≤◌, drop, length};
 
     ghost Value = { List T };
 
-    ghost view = { λ s. drop s.first s.items };
+    ghost view = { λ s. drop s.first s.items.now };
 
-    ghost invariant = { λ s. s.first ≤ N };
+    ghost invariant = { λ s. (s.first ≤ N) × (length s.items.now ≡ N) };
 }
 
-impl<T: Copy, const N: usize> Stack<T, N> {
-    // No item yet. The array is filled with a blank, which nobody sees.
-    pub(crate) fn new(blank: T) -> Self
+impl<'a, T: Copy, const N: usize> Stack<'a, T, N> {
+    // No item yet: what the array has nobody sees.
+    pub(crate) fn new(items: &'a mut [T; N]) -> Self
         ensures { result ≡ [] }
     {
-        Stack {
-            items: [blank; N],
-            first: N,
-        }
+        Stack { items, first: N }
     }
 
     pub(crate) fn push(&mut self, item: T)

@@ -5,6 +5,7 @@ ghost use Rattle.text.specs.Pass.{is_full, nothing_kept, step, whole_image};
 ghost use Rattle.text.specs.Reading.{step_to};
 ghost use Rattle.text.specs.Told.{told};
 
+use crate::LONGEST_IMAGE;
 use crate::bytes::copy_to_start;
 use crate::records::{Image, Label, Labels, end_siblings};
 use crate::stack::Stack;
@@ -30,15 +31,15 @@ impl From<Fault> for Refusal {
 // Of the tokens so far: whether a number stands just before, which may have brackets; how many brackets are open, and how many nodes are
 // written; the labels that wait; and the image.
 #[derive(Drop)]
-pub(crate) struct Kept {
+pub(crate) struct Kept<'a> {
     may_open: bool,
     depth: usize,
     nodes: usize,
-    waiting: Labels,
-    image: Image,
+    waiting: Labels<'a>,
+    image: Image<'a>,
 }
 
-impl Model for Kept {
+impl<'a> Model for Kept<'a> {
     ghost use Rattle.text.specs.Pass.{Kept as TheKept};
 
     ghost Value = { TheKept };
@@ -50,20 +51,20 @@ impl Model for Kept {
     ghost invariant = { λ k. Room (kept_in k) };
 }
 
-impl Kept {
+impl<'a> Kept<'a> {
     // Before the first token.
-    pub(crate) fn new() -> Self
+    pub(crate) fn new(
+        labels: &'a mut [Label; MOST_WRITTEN_NODES],
+        bytes: &'a mut [u8; LONGEST_IMAGE],
+    ) -> Self
         ensures { result ≡ nothing_kept }
     {
         Kept {
             may_open: false,
             depth: 0,
             nodes: 0,
-            waiting: Stack::new(Label {
-                number: 0,
-                is_open: false,
-            }),
-            image: Image::new(),
+            waiting: Stack::new(labels),
+            image: Image::new(bytes),
         }
     }
 
@@ -123,13 +124,15 @@ impl Kept {
     }
 
     // The image, if the tokens were those of a tree: every bracket is closed, and there is a root.
-    pub(crate) fn put_image(mut self, out: &mut [u8]) -> Result<usize, Refusal>
-        ensures { (result, out.new) ≡ told (whole_image self) out.old }
+    pub(crate) fn put_image(self, out: &mut [u8]) -> Result<usize, Refusal>
+        ensures { (result, out.new) ≡ told (whole_image self.entry) out.old }
     {
         if self.depth != 0 || self.nodes == 0 {
             return Err(Refusal::Text);
         }
-        end_siblings(self.may_open, &mut self.waiting, &mut self.image);
-        copy_to_start(self.image.as_slice(), out)
+        let mut waiting = self.waiting;
+        let mut image = self.image;
+        end_siblings(self.may_open, &mut waiting, &mut image);
+        copy_to_start(image.as_slice(), out)
     }
 }
