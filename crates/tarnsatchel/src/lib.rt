@@ -5,7 +5,7 @@
 
 ghost use Rattle.std.specs.Prelude.{◌≡◌};
 ghost use Rattle.paper.specs.Answers.{no_of, says, says_built, told};
-ghost use Rattle.tarnsatchel.specs.Told.{set_kind, set_record, head_numbers, set_of, head_of, Tells, TellsWhere};
+ghost use Rattle.tarnsatchel.specs.Told.{code, set_kind, set_record, head_numbers, set_of, head_of, Tells, TellsWhere};
 ghost use Rattle.tarnsatchel.specs.Told.{TellsBuild, TellsCount, TellsRow, TellsMember, TellsProject, TellsFix, TellsText, TellsTree};
 
 use paper::{Head, Record, Refusal, Set, StreamRefusal};
@@ -61,8 +61,9 @@ pub extern "C" fn tarn_row(
     ensures { TellsRow head.now table.now work.old number row.old result
         work.new row.new }
 {
-    let written = row::row(head_of(head), table, work, number, row);
-    tell(written, &mut ())
+    let h = head_of(head);
+    let written = row::row(h, table, work, number, row);
+    tell_written(written)
 }
 
 // `listed` is 1 if the row is listed, else 0: a byte, which every language that calls C has.
@@ -93,8 +94,9 @@ pub extern "C" fn tarn_project(
     ensures { TellsProject head.now table.now work.old place marks.old result
         work.new marks.new }
 {
-    let projected = project::project(head_of(head), table, work, place, marks);
-    tell(projected, &mut ())
+    let h = head_of(head);
+    let projected = project::project(h, table, work, place, marks);
+    tell_written(projected)
 }
 
 // Fixes the place at the node, into `target`; `fixed` is the new head's numbers. The source and its head stay as they are, so that one
@@ -198,8 +200,7 @@ fn set_record(set: Set) -> u16
     }
 }
 
-// 0 with an answer, which may be 0 rows or a row that is not listed; what stands in a lent output is written already, and its answer
-// is (). The refusal's number is above 0 for every refusal.
+// 0 with an answer, which may be 0 rows or a row that is not listed. The refusal's number is above 0 for every refusal.
 fn tell<A: Copy>(answered: Result<A, Refusal>, out: &mut A) -> u8
     ensures { Tells (says no_of answered) out.old result out.new }
 {
@@ -210,6 +211,13 @@ fn tell<A: Copy>(answered: Result<A, Refusal>, out: &mut A) -> u8
         }
         Err(why) => why.number(),
     }
+}
+
+// The same of an answer that stands in a lent output already, so that only a number is told.
+fn tell_written(answered: Result<(), Refusal>) -> u8
+    ensures { result ≡ code (says no_of answered) }
+{
+    tell(answered, &mut ())
 }
 
 // The same of a new set, whose head goes as its numbers.

@@ -3,4 +3,4 @@ use Rattle.tarnsatchel.proofs.Telling.{tells_row}
 use Rattle.tarnsatchel.proofs.tarn_row.Goals as goal
 
 pub returns : goal.returns
-returns c = tells_row (rw c.head_of.ensures at c.row-written.ensures) c.tell.ensures.number
+returns c = tells_row (rw c.head_of-h.ensures at c.row-written.ensures) c.tell_written.ensures
