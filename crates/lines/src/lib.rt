@@ -1,7 +1,7 @@
-// Text in a buffer: a byte, a number, a line of a word and a number, the line of a refusal, each put behind the first `at` bytes of the
-// buffer or, in a `Text`, whose buffer has a fixed size, behind what stands there. Both programs write with a `Text`. A word, a number or
-// a byte that has no room is left out whole, so none asks for anything; who has the room knows that all stands there
-// (proofs/PuttingAt.antt; of a `Text` proofs/Putting.antt). Last, how both programs read and write.
+// Text in a buffer: a byte, a number, a line of a word and a number, the line of a refusal. First in a `Text`, whose buffer has a fixed
+// size, behind what stands there: with it both programs write. Then in any buffer, behind its first `at` bytes, the line of a refusal from
+// its start. A word, a number or a byte that has no room is left out whole, so none asks for anything; who has the room knows that all
+// stands there (proofs/PuttingAt.antt; of a `Text` proofs/Putting.antt). Last, how both programs read and write.
 #![tactic(auto)]
 
 ghost use Rattle.std.specs.Prelude.{[], ◌∷◌, ◌≡◌, ◌+◌, ◌≤◌, length, take, OnOk};

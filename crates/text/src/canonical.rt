@@ -17,8 +17,8 @@ const LONGEST_NODE: usize = 4;
 
 pub(crate) const LONGEST_TEXT: usize = MOST_WRITTEN_NODES * LONGEST_NODE;
 
-// A node, by its label, and what of it is still to come. A bool beside the children would make three bytes of it for two, and so a
-// third more of what is moved for each record.
+// A node, by its label, and what of it is still to come. A bool beside the children would make three bytes of it for two, which
+// are moved for each record.
 #[derive(Clone, Copy, Debug, PartialEq, Eq)]
 enum Waiting {
     // Its others.

@@ -37,5 +37,6 @@ pub fn tree_to_text(tree: &[u8], out: &mut [u8]) -> Result<usize, Refusal>
     }
     let mut bytes = [0; LONGEST_TEXT];
     let text = write_text(tree, &mut bytes);
-    copy_to_start(text.as_slice(), out)
+    let whole = text.as_slice();
+    copy_to_start(whole, out)
 }

@@ -1,4 +1,4 @@
-// The pass over a text, from its first byte to its last.
+// The pass over a text, from its first byte to its last: one byte, the end of a comment, and the whole text.
 ghost use Rattle.std.specs.Prelude.{◌≡◌, cond, ◌+◌, ◌*◌};
 ghost use Rattle.std.proofs.Math.Option.{none, some};
 ghost use Rattle.paper.specs.BracketedText.{Comment};
@@ -14,7 +14,7 @@ use crate::tokens::{Fault, Kept};
 use paper::Refusal;
 use paper::limits::{HIGHEST_LABEL, MOST_WRITTEN_NODES};
 
-// Where the reading stands: between tokens, in a number that is this so far, in a comment.
+// Where the reading stands: between tokens, in a number that is this so far, or where a comment has begun.
 #[derive(Clone, Copy, Debug, PartialEq, Eq)]
 enum Mode {
     Outside,
@@ -52,7 +52,8 @@ fn read_symbol(byte: u8, kept: &mut Kept) -> Result<Mode, Fault>
     Ok(Mode::Outside)
 }
 
-// A digit goes into a number, and any other byte ends one.
+// A digit goes into a number, and any other byte ends one. `read_text` goes over a comment by itself and asks for none of its bytes: the
+// first two arms are here since the contract speaks of every mode.
 fn read_byte(mode: Mode, byte: u8, kept: &mut Kept) -> Result<Mode, Fault>
     ensures { state_behind result kept.new ≡ after_byte (state_in mode kept.old) byte }
 {
@@ -74,15 +75,15 @@ fn read_byte(mode: Mode, byte: u8, kept: &mut Kept) -> Result<Mode, Fault>
 fn comment_end(text: &[u8]) -> &[u8]
     ensures { Comment text.now result.now }
 {
-    let mut rest = text;
+    let mut end = text;
     // Ends with the text at the latest: a turn goes over one byte.
-    while let [byte, behind @ ..] = rest {
+    while let [byte, behind @ ..] = end {
         if *byte == b'\n' {
-            return rest;
+            return end;
         }
-        rest = behind;
+        end = behind;
     }
-    rest
+    end
 }
 
 // The image of the tree that a text writes. What stands behind a fault is not read, since it mends nothing.

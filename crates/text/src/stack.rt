@@ -54,8 +54,6 @@ impl<'a, T: Copy, const N: usize> Stack<'a, T, N> {
     pub(crate) fn as_slice(&self) -> &[T]
         ensures { result.now ≡ self.now }
     {
-        // The borrow checker takes a part with a start of a slice, and not yet of an array of `N`.
-        let items = &self.items[..];
-        &items[self.first..]
+        &self.items[self.first..]
     }
 }

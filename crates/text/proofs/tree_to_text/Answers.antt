@@ -12,4 +12,4 @@ returns-then-not-is_image c =
 
 pub returns : goal.returns
 returns c = let made = c.write_text-text.ensures in
-    converted (Images c.args.tree.now) text_of made.tree made.images _ c.args.out.now (c.as_slice.ensures ∙ made.stands) _ _ c.copy_to_start.ensures
+    converted (Images c.args.tree.now) text_of made.tree made.images _ c.args.out.now (c.as_slice-whole.ensures ∙ made.stands) _ _ c.copy_to_start.ensures

@@ -3,8 +3,8 @@ use Rattle.std.proofs.Common.{List, ℕ, length}
 use Rattle.paper.specs.BracketedText.{Comment}
 use Rattle.text.proofs.pass.comment_end.Given as goal
 
-abbrev pub invariant-loop-rest : goal.invariant-loop-rest
-invariant-loop-rest l = (end : List ℕ) → Comment l.rest end → Comment l.text end
+abbrev pub invariant-loop-end : goal.invariant-loop-end
+invariant-loop-end l = (end : List ℕ) → Comment l.end end → Comment l.text end
 
-abbrev pub decreases-loop-rest : goal.decreases-loop-rest
-decreases-loop-rest l = length l.rest
+abbrev pub decreases-loop-end : goal.decreases-loop-end
+decreases-loop-end l = length l.end
