@@ -33,7 +33,7 @@ length-missing [] = omega arith
 length-missing (Others l ∷ ws) = omega arith
 length-missing (Children l ∷ ws) = omega (arith, length-completed ws)
 length-missing (LastChildren l ∷ ws) = omega (arith, length-completed ws)
-length-missing (Inside l ∷ ws) = omega arith
+length-missing (Inside l ∷ ws) = omega (arith, length-completed ws)
 
 length-met : (l : ℕ) (ws : List Waiting) → length (met l ws).0 ≡ suc (length ws)
 length-met l [] = refl

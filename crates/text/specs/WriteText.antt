@@ -28,7 +28,7 @@ missing [] = ([], [])
 missing (Others l ∷ ws) = (LastChildren l ∷ ws, [])
 missing (Children l ∷ ws) = ((completed ws).0, (completed ws).1 ++ childless l true)
 missing (LastChildren l ∷ ws) = ((completed ws).0, (completed ws).1 ++ childless l false)
-missing (Inside l ∷ ws) = (ws, [])
+missing (Inside l ∷ ws) = ((completed ws).0, (completed ws).1 ++ childless l false)
 
 -- a branch: the root, the last of the others of the last node that waits, or of its children, behind which its brackets are closed. (In
 -- an image that node is not inside its brackets.)

@@ -86,12 +86,12 @@ impl Writing<'_, '_> {
                 self.put_label(label);
                 self.complete();
             }
-            Some(Waiting::LastChildren(label)) => {
+            // In an image this node is not inside its brackets.
+            Some(Waiting::LastChildren(label) | Waiting::Inside(label)) => {
                 self.put_label(label);
                 self.complete();
             }
-            // In an image this node is not inside its brackets.
-            Some(Waiting::Inside(_)) | None => {}
+            None => {}
         }
     }
 

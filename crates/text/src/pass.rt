@@ -37,8 +37,6 @@ fn with_digit(number: u8, digit: u8) -> Result<u8, Fault>
 }
 
 // A byte between tokens that is no digit. A slash is simply a wrong character.
-// Inlined, so that what is kept of the tokens stays in registers from byte to byte.
-#[inline(always)]
 fn read_symbol(byte: u8, kept: &mut Kept) -> Result<Mode, Fault>
     ensures { state_behind result kept.new ≡ after_symbol (symbol_of byte) kept.old }
 {
@@ -58,16 +56,17 @@ fn read_byte(mode: Mode, byte: u8, kept: &mut Kept) -> Result<Mode, Fault>
     ensures { state_behind result kept.new ≡ after_byte (state_in mode kept.old) byte }
 {
     match (mode, byte) {
-        (Mode::Comment, b'\n') => Ok(Mode::Outside),
-        (Mode::Comment, _) => Ok(Mode::Comment),
-        (Mode::Outside, b'0'..=b'9') => Ok(Mode::Number(byte - b'0')),
-        (Mode::Outside, _) => read_symbol(byte, kept),
-        (Mode::Number(number), b'0'..=b'9') => Ok(Mode::Number(with_digit(number, byte - b'0')?)),
-        (Mode::Number(number), _) => {
-            kept.put_number(number)?;
-            read_symbol(byte, kept)
+        (Mode::Comment, b'\n') => return Ok(Mode::Outside),
+        (Mode::Comment, _) => return Ok(Mode::Comment),
+        (Mode::Outside, b'0'..=b'9') => return Ok(Mode::Number(byte - b'0')),
+        (Mode::Number(number), b'0'..=b'9') => {
+            return Ok(Mode::Number(with_digit(number, byte - b'0')?));
         }
+        (Mode::Number(number), _) => kept.put_number(number)?,
+        (Mode::Outside, _) => {}
     }
+    // At one place, so that it is compiled into the loop over the bytes, and what is kept stays in registers.
+    read_symbol(byte, kept)
 }
 
 // Where a comment ends that has begun before this text: at the next line end, which is not part of it, or at the text's end. In a loop
