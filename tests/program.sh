@@ -30,12 +30,12 @@ bounded() { timeout "$patience" env --default-signal=PIPE "$@"; }
 # What calls the system has the handle that main is given, or calls a reader or a writer of std. Left out are the lines that only name an
 # array or a model, and the two calls of text's own `read_pad` and `read_branch`.
 system='\b(std|io|libc|os|rt|HostRuntime|Read|Write|stdin|stdout|stderr)\b|\.(read|write|flush)'
-plain=':(use std::(array|marker::Model)|[[:space:]]*writing\.read_(pad\(\)|branch\(\*label\)));$'
+plain=':(use std::(array|marker::Model)|[[:space:]]*writing\.read_(pad\(\)|branch\(Number::new\(\*label\)\)));$'
 # code_lines WORDS: the lines of code that have one of them, each behind its file
 code_lines() { grep -rE --include='*.rt' "$1" crates/*/src | grep -vE ":[[:space:]]*(//|requires|ensures|ghost)|$plain"; }
 read_lines() {
     # a call or a head with its type parameters; the page and the count hold the input, and a text the bytes
-    local calls='\b(tell|set_of|list|rows|put_line|pass_on|hand_on|records_of|nothing|read_full|write_or_tell|Unwritten)(<[^(]*>)?\('
+    local calls='\b(tell|answer|set_of|list|rows|put_line|make_room|pass_on|hand_on|records_of|nothing|read_full|write_or_tell|Unwritten)(<[^(]*>)?\('
     local bytes='&(mut )?\[u8|\bText<|\b(Page|Handed)\b' programs='^crates/(list|tree)/'
     {
         code_lines "$system" | grep -vE "$programs"

@@ -13,12 +13,12 @@ use Rattle.paper.specs.Conversions.{Images}
 use Rattle.paper.specs.WrittenTree.{WrittenTree, forest_of}
 use Rattle.writings.proofs.CanonicalTexts.{text_length}
 use Rattle.writings.proofs.Images.{read_image_lem}
-use Rattle.text.specs.declared.canonical.Waiting.TheVariants.{Others, Children, LastChildren, Inside}
+use Rattle.text.specs.declared.node.Waiting.TheVariants.{Others, LastChildren, Children, Inside}
 use Rattle.text.specs.JudgeImage.{accepts_image, image_judged, nothing_read}
 use Rattle.text.specs.WriteText.{Waiting, completed, met, missing, step_of, text_before}
 use Rattle.text.specs.Writing.{Fits, Writing, after}
 use Rattle.text.proofs.JudgedImages.{accepted_image}
-use Rattle.text.proofs.WrittenTexts.{branches_in, image_branches, reverse-image, text_written}
+use Rattle.text.proofs.WrittenTexts.{LowLabels, branches_in, image_branches, image_low, reverse-image, text_written}
 
 -- ---- how many nodes wait
 length-completed : (ws : List Waiting) → length (completed ws).0 ≤ length ws
@@ -43,12 +43,13 @@ length-met l (LastChildren m ∷ ws) = refl
 length-met l (Inside m ∷ ws) = refl
 
 -- ---- what the loop keeps up
--- the bytes that are left are still to be written before the text
+-- the bytes that are left are still to be written before the text, and their labels are at most 63
 pub record SoFar (image rest : List ℕ) (w : Writing) : Type 0 where
   pub tree : WrittenTree
   pub images : Images image tree
   pub to_come : text_before w.waiting (reverse rest) ++ w.text ≡ text_of tree
   pub few : length w.waiting + branches_in (reverse rest) ≤ 2047
+  pub low : LowLabels (reverse rest)
 
 -- bytes that are accepted are the image of a tree, and no node waits
 pub starts_written : (image : List ℕ) → accepts_image (image_judged nothing_read image) ≡ true
@@ -61,6 +62,7 @@ starts_written image a =
       images = record { allowed = allowed; image = sym same };
       to_come = append-nil (text_before [] (reverse image)) ∙ ap (text_before []) back ∙ text_written tree;
       few = omega (arith, ap branches_in back, image_branches tree, allowed.few);
+      low = subst LowLabels (sym back) (image_low tree allowed.labels);
     }
 
 -- one record more
@@ -92,6 +94,13 @@ module _ {image rest : List ℕ} (w : Writing) (S : SoFar image rest w) (two : 2
       ap reverse (sym (take-append-drop (length rest - 2) rest) ∙ ap (λ t. before ++ t) last_two)
       ∙ reverse-append before (kind ∷ label ∷ [])
 
+  all_low : (label ≤ 63) × LowLabels (reverse before)
+  all_low = subst LowLabels back S.low
+
+  -- its label is at most 63
+  pub label_low : label ≤ 63
+  label_low = all_low.0
+
   to_come : (text_before step.0 (reverse before) ++ step.1) ++ w.text ≡ text_of S.tree
   to_come = ap (λ t. text_before w.waiting t ++ w.text) (sym back) ∙ S.to_come
 
@@ -112,6 +121,7 @@ module _ {image rest : List ℕ} (w : Writing) (S : SoFar image rest w) (two : 2
     images = S.images;
     to_come = sym (append_assoc (text_before step.0 (reverse before)) step.1 w.text) ∙ to_come;
     few = few;
+    low = all_low.1;
   }
 
   -- a pad

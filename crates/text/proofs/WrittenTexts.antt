@@ -1,15 +1,15 @@
 -- The pass over an image from its last byte to its first writes the canonical text.
-use mathlib.Core.Path.{◌≡◌, refl, sym, ◌∙◌, ap}
+use mathlib.Core.Path.{◌≡◌, refl, subst, sym, ◌∙◌, ap}
 use mathlib.Core.Bool.{Bool, true, false, cond}
 use mathlib.Core.List.{List, [], ◌∷◌, ◌++◌, append_assoc, append-nil, reverse, reverse-append}
-use Prim.Native.Nat.{ℕ, suc, ◌+◌}
+use Prim.Native.Nat.{ℕ, suc, ◌+◌, ◌≤◌}
 use native.Mathlib.Omega.{arith}
 use lib.Dec.{eqb}
-use Rattle.paper.specs.WrittenTree.{Forest, nil, tree, WrittenTree, forest_nodes, forest_of, written_nodes}
+use Rattle.paper.specs.WrittenTree.{Forest, LabelsFit, nil, tree, WrittenTree, forest_nodes, forest_of, written_nodes}
 use Rattle.paper.specs.BracketedText.{decimal}
 use Rattle.paper.specs.CanonicalText.{bracketed, between, forest_text, text_of}
 use Rattle.paper.specs.Image.{forest_bytes, image_bytes}
-use Rattle.text.specs.declared.canonical.Waiting.TheVariants.{Others, Children, LastChildren, Inside}
+use Rattle.text.specs.declared.node.Waiting.TheVariants.{Others, LastChildren, Children, Inside}
 use Rattle.text.specs.WriteText.{Waiting, blank_if, completed, text_before}
 
 -- the image's bytes from the last to the first
@@ -120,3 +120,21 @@ forest_branches (tree l c s) bytes =
 
 pub image_branches : (w : WrittenTree) → branches_in (image_back w) ≡ written_nodes w
 image_branches w = ap branches_in (sym (append-nil (image_back w))) ∙ omega (arith, forest_branches (forest_of w) [])
+
+-- ---- labels
+-- each record's is at most 63
+abbrev pub LowLabels : List ℕ → Type 0
+LowLabels [] = Unit {0}
+LowLabels (l ∷ []) = Unit {0}
+LowLabels (l ∷ k ∷ bytes) = (l ≤ 63) × LowLabels bytes
+
+forest_low : (f : Forest) (bytes : List ℕ) → LabelsFit f → LowLabels bytes → LowLabels (bytes_back f ++ bytes)
+forest_low nil bytes fit low = (omega arith, low)
+forest_low (tree l c s) bytes fit low = (
+  fit.0,
+  subst LowLabels (sym (append_assoc (bytes_back s) (bytes_back c) bytes))
+      (forest_low s (bytes_back c ++ bytes) fit.2 (forest_low c bytes fit.1 low)),
+)
+
+pub image_low : (w : WrittenTree) → LabelsFit (forest_of w) → LowLabels (image_back w)
+image_low w fit = subst LowLabels (append-nil (image_back w)) (forest_low (forest_of w) [] fit tt)

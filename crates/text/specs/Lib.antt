@@ -1,6 +1,8 @@
 pub mod Stack
 pub mod Face
 pub mod Bounds
+pub mod Labels
+pub mod Nodes
 pub mod Pass
 pub mod Told
 pub mod Room

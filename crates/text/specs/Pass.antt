@@ -5,7 +5,7 @@ use Rattle.std.proofs.Math.Option.{Option, none, some}
 use Rattle.paper.specs.BracketedText.{Token, number, opening, closing}
 use Rattle.writings.specs.ReadText.{Symbol, is_blank, is_line_end, is_mark, is_opening, is_closing, is_wrong, Sign, digit, symbol, sign_of, Mode, outside, in_number, in_comment}
 use Rattle.text.specs.Bounds.{most_written}
-pub use Rattle.text.specs.declared.records.Label.{Label}
+pub use Rattle.text.specs.Labels.{Label}
 
 -- ---- the labels that wait
 -- They stand in one list, the last label first, each with whether its own brackets are open. A branch is written when its children and its

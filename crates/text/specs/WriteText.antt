@@ -2,8 +2,8 @@
 -- the written nodes of which something is still to come, each with what that is.
 use Rattle.std.specs.Prelude.{Bool, true, false, cond, List, [], ◌∷◌, ◌++◌, ℕ, eqb}
 use Rattle.paper.specs.BracketedText.{decimal}
-pub use Rattle.text.specs.declared.canonical.Waiting.{Waiting}
-use Rattle.text.specs.declared.canonical.Waiting.TheVariants.{Others, Children, LastChildren, Inside}
+pub use Rattle.text.specs.Nodes.{Waiting}
+use Rattle.text.specs.declared.node.Waiting.TheVariants.{Others, LastChildren, Children, Inside}
 
 abbrev pub blank_if : Bool → List ℕ
 blank_if b = cond b (32 ∷ []) []
@@ -17,27 +17,26 @@ childless l others = decimal l ++ blank_if others
 abbrev pub completed : List Waiting → List Waiting × List ℕ
 completed [] = ([], [])
 completed (Others l ∷ ws) = (Children l ∷ ws, [])
-completed (Children l ∷ ws) = (Children l ∷ ws, [])
 completed (LastChildren l ∷ ws) = (Children l ∷ ws, [])
+completed (Children l ∷ ws) = (Children l ∷ ws, [])
 completed (Inside l ∷ ws) = ((completed ws).0, (completed ws).1 ++ (decimal l ++ (40 ∷ [])))
 
--- a pad: the last node that waits has no others, or it has no children and is complete. (In an image no node that waits is inside its
--- brackets then.)
+-- a pad: the last node that waits has no others, or it has no children and is complete. (In an image it is not inside its brackets.)
 abbrev pub missing : List Waiting → List Waiting × List ℕ
 missing [] = ([], [])
 missing (Others l ∷ ws) = (LastChildren l ∷ ws, [])
-missing (Children l ∷ ws) = ((completed ws).0, (completed ws).1 ++ childless l true)
 missing (LastChildren l ∷ ws) = ((completed ws).0, (completed ws).1 ++ childless l false)
-missing (Inside l ∷ ws) = ((completed ws).0, (completed ws).1 ++ childless l false)
+missing (Children l ∷ ws) = ((completed ws).0, (completed ws).1 ++ childless l true)
+missing (Inside l ∷ ws) = ((completed ws).0, (completed ws).1 ++ childless l true)
 
 -- a branch: the root, the last of the others of the last node that waits, or of its children, behind which its brackets are closed. (In
--- an image that node is not inside its brackets.)
+-- an image they are not closed yet.)
 abbrev pub met : ℕ → List Waiting → List Waiting × List ℕ
 met m [] = (Others m ∷ [], [])
 met m (Others l ∷ ws) = (Others m ∷ Others l ∷ ws, [])
-met m (Children l ∷ ws) = (Others m ∷ Inside l ∷ ws, 41 ∷ [])
 met m (LastChildren l ∷ ws) = (Others m ∷ Inside l ∷ ws, 41 ∷ [])
-met m (Inside l ∷ ws) = (Others m ∷ Inside l ∷ ws, [])
+met m (Children l ∷ ws) = (Others m ∷ Inside l ∷ ws, 41 ∷ [])
+met m (Inside l ∷ ws) = (Others m ∷ Inside l ∷ ws, 41 ∷ [])
 
 -- a pad, or a branch
 abbrev pub step_of : ℕ → ℕ → List Waiting → List Waiting × List ℕ

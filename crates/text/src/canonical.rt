@@ -1,14 +1,19 @@
 // The canonical text of an image. The records are read from the last to the first, so a node comes before its others, and these before its
 // children; the text is written from its end to its start.
 ghost use Rattle.std.specs.Prelude.{true, ◌++◌, ◌+◌, ◌≡◌, ◌<◌, ◌≤◌, length};
+ghost use Rattle.std.proofs.Math.Option.{some};
 ghost use Rattle.paper.specs.BracketedText.{decimal};
 ghost use Rattle.text.specs.Bounds.{longest_text, most_written};
 ghost use Rattle.text.specs.JudgeImage.{accepts_image, image_judged, nothing_read};
+ghost use Rattle.text.specs.Told.{told};
 ghost use Rattle.text.specs.WriteText.{completed, met, missing};
 ghost use Rattle.text.specs.Writing.{Fits, WritesText, after};
 
-use crate::bytes::BASE;
+use crate::bytes::{BASE, copy_to_start};
+use crate::node::{Node, Waiting};
+use crate::number::Number;
 use crate::stack::Stack;
+use paper::Refusal;
 use paper::kinds::LEAF;
 use paper::limits::MOST_WRITTEN_NODES;
 
@@ -17,34 +22,21 @@ const LONGEST_NODE: usize = 4;
 
 pub(crate) const LONGEST_TEXT: usize = MOST_WRITTEN_NODES * LONGEST_NODE;
 
-// A node, by its label, and what of it is still to come. A bool beside the children would make three bytes of it for two, which
-// are moved for each record.
-#[derive(Clone, Copy, Debug, PartialEq, Eq)]
-enum Waiting {
-    // Its others.
-    Others(u8),
-    // Its children; it has others.
-    Children(u8),
-    // Its children; it has no others.
-    LastChildren(u8),
-    // The rest of its children, inside its brackets.
-    Inside(u8),
-}
-
 // The nodes that wait, and what is written of the text.
 #[derive(Drop)]
 struct Writing<'w, 't> {
-    waiting: Stack<'w, Waiting, MOST_WRITTEN_NODES>,
+    waiting: Stack<'w, Node, MOST_WRITTEN_NODES>,
     text: Stack<'t, u8, LONGEST_TEXT>,
 }
 
 impl Writing<'_, '_> {
     // A label in decimal. Labels have at most two digits.
-    fn put_label(&mut self, label: u8)
+    fn put_label(&mut self, label: Number)
         requires { length (decimal label) + length self.old.text ≤ longest_text }
         ensures waiting { self.new.waiting ≡ self.old.waiting }
         ensures text { self.new.text ≡ decimal label ++ self.old.text }
     {
+        let label = label.value();
         if label < BASE {
             self.text.push(b'0' + label);
         } else {
@@ -60,14 +52,14 @@ impl Writing<'_, '_> {
     {
         // Ends where no node waits at the latest: each turn takes one.
         while let Some(node) = self.waiting.pop() {
-            match node {
+            match Waiting::from(node) {
                 Waiting::Inside(label) => {
                     self.text.push(b'(');
                     self.put_label(label);
                 }
-                Waiting::Others(label) | Waiting::Children(label) | Waiting::LastChildren(label) =>
+                Waiting::Others(label) | Waiting::LastChildren(label) | Waiting::Children(label) =>
                     {
-                        self.waiting.push(Waiting::Children(label));
+                        self.waiting.push(Node::from(Waiting::Children(label)));
                         return;
                     }
             }
@@ -79,15 +71,17 @@ impl Writing<'_, '_> {
         requires { Fits (missing self.old.waiting) self.old.text }
         ensures { self.new ≡ after (missing self.old.waiting) self.old }
     {
-        match self.waiting.pop() {
-            Some(Waiting::Others(label)) => self.waiting.push(Waiting::LastChildren(label)),
-            Some(Waiting::Children(label)) => {
-                self.text.push(b' ');
+        match self.waiting.pop().map(Waiting::from) {
+            Some(Waiting::Others(label)) => {
+                self.waiting.push(Node::from(Waiting::LastChildren(label)));
+            }
+            Some(Waiting::LastChildren(label)) => {
                 self.put_label(label);
                 self.complete();
             }
-            // In an image this node is not inside its brackets.
-            Some(Waiting::LastChildren(label) | Waiting::Inside(label)) => {
+            // In an image it is not inside its brackets.
+            Some(Waiting::Children(label) | Waiting::Inside(label)) => {
+                self.text.push(b' ');
                 self.put_label(label);
                 self.complete();
             }
@@ -97,21 +91,25 @@ impl Writing<'_, '_> {
 
     // A branch: the last of the others of the last node that waits, or the last of its children, behind which its brackets are closed. The
     // new node waits then.
-    fn read_branch(&mut self, label: u8)
+    fn read_branch(&mut self, label: Number)
         requires room { length self.old.waiting < most_written }
         requires fits { Fits (met label self.old.waiting) self.old.text }
         ensures { self.new ≡ after (met label self.old.waiting) self.old }
     {
-        match self.waiting.pop() {
-            Some(Waiting::Children(parent) | Waiting::LastChildren(parent)) => {
-                self.text.push(b')');
-                self.waiting.push(Waiting::Inside(parent));
+        // None waits before the root.
+        if let Some(node) = self.waiting.pop() {
+            match Waiting::from(node) {
+                Waiting::Others(_) => self.waiting.push(node),
+                // In an image its brackets are not closed yet.
+                Waiting::LastChildren(parent)
+                | Waiting::Children(parent)
+                | Waiting::Inside(parent) => {
+                    self.text.push(b')');
+                    self.waiting.push(Node::from(Waiting::Inside(parent)));
+                }
             }
-            Some(node) => self.waiting.push(node),
-            // The root.
-            None => {}
         }
-        self.waiting.push(Waiting::Others(label));
+        self.waiting.push(Node::from(Waiting::Others(label)));
     }
 }
 
@@ -123,7 +121,7 @@ pub(crate) fn write_text<'t>(
     requires { accepts_image (image_judged nothing_read tree.now) ≡ true }
     ensures { WritesText tree.now result }
 {
-    let mut nodes = [Waiting::Others(0); MOST_WRITTEN_NODES];
+    let mut nodes = [Node::BLANK; MOST_WRITTEN_NODES];
     let mut writing = Writing {
         waiting: Stack::new(&mut nodes),
         text: Stack::new(text),
@@ -134,9 +132,16 @@ pub(crate) fn write_text<'t>(
         if *kind == LEAF {
             writing.read_pad();
         } else {
-            writing.read_branch(*label);
+            writing.read_branch(Number::new(*label));
         }
         rest = before;
     }
     writing.text
+}
+
+// The whole text, once it is written, over the start of the output.
+pub(crate) fn put_text(text: Stack<'_, u8, LONGEST_TEXT>, out: &mut [u8]) -> Result<usize, Refusal>
+    ensures { (result, out.new) ≡ told (some text.entry) out.old }
+{
+    copy_to_start(text.as_slice(), out)
 }

@@ -6,13 +6,15 @@ ghost use Rattle.text.specs.Face.{MakesText, MakesTree};
 mod bytes;
 mod canonical;
 mod image;
+mod label;
+mod node;
+mod number;
 mod pass;
 mod records;
 mod stack;
 mod tokens;
 
-use crate::bytes::copy_to_start;
-use crate::canonical::{LONGEST_TEXT, write_text};
+use crate::canonical::{LONGEST_TEXT, put_text, write_text};
 use crate::image::{RECORD, is_image};
 use crate::pass::read_text;
 use paper::Refusal;
@@ -37,6 +39,5 @@ pub fn tree_to_text(tree: &[u8], out: &mut [u8]) -> Result<usize, Refusal>
     }
     let mut bytes = [0; LONGEST_TEXT];
     let text = write_text(tree, &mut bytes);
-    let whole = text.as_slice();
-    copy_to_start(whole, out)
+    put_text(text, out)
 }

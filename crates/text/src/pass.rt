@@ -9,23 +9,25 @@ ghost use Rattle.text.specs.Told.{told};
 
 use crate::LONGEST_IMAGE;
 use crate::bytes::BASE;
-use crate::records::Label;
+use crate::label::Label;
+use crate::number::Number;
 use crate::tokens::{Fault, Kept};
 use paper::Refusal;
 use paper::limits::{HIGHEST_LABEL, MOST_WRITTEN_NODES};
 
 // Where the reading stands: between tokens, in a number that is this so far, or where a comment has begun.
-#[derive(Clone, Copy, Debug, PartialEq, Eq)]
+#[derive(Clone, Debug, Drop, PartialEq, Eq)]
 enum Mode {
     Outside,
-    Number(u8),
+    Number(Number),
     Comment,
 }
 
 // A number with one more digit. No zero leads a number, and none is above the highest label.
-fn with_digit(number: u8, digit: u8) -> Result<u8, Fault>
+fn with_digit(number: Number, digit: u8) -> Result<Number, Fault>
     ensures { answered result ≡ cond (one_more number digit) (some (10 * number + digit)) none }
 {
+    let number = number.value();
     if number == 0 {
         return Err(Fault);
     }
@@ -33,7 +35,7 @@ fn with_digit(number: u8, digit: u8) -> Result<u8, Fault>
     if longer > u16::from(HIGHEST_LABEL) {
         return Err(Fault);
     }
-    Ok(longer as u8)
+    Ok(Number::new(longer as u8))
 }
 
 // A byte between tokens that is no digit. A slash is simply a wrong character.
@@ -58,7 +60,7 @@ fn read_byte(mode: Mode, byte: u8, kept: &mut Kept) -> Result<Mode, Fault>
     match (mode, byte) {
         (Mode::Comment, b'\n') => return Ok(Mode::Outside),
         (Mode::Comment, _) => return Ok(Mode::Comment),
-        (Mode::Outside, b'0'..=b'9') => return Ok(Mode::Number(byte - b'0')),
+        (Mode::Outside, b'0'..=b'9') => return Ok(Mode::Number(Number::new(byte - b'0'))),
         (Mode::Number(number), b'0'..=b'9') => {
             return Ok(Mode::Number(with_digit(number, byte - b'0')?));
         }

@@ -6,25 +6,11 @@ ghost use Rattle.text.specs.Room.{one};
 
 use crate::LONGEST_IMAGE;
 use crate::image::RECORD;
+use crate::label::Label;
 use crate::stack::Stack;
 use paper::kinds::{BRANCH, LEAF};
 use paper::limits::{MOST_WRITTEN_NODES, PAD_LABEL};
 use std::marker::Model;
-
-// A label that waits for its branch, and whether its brackets are open.
-#[derive(Clone, Copy, Debug, PartialEq, Eq)]
-pub(crate) struct Label {
-    pub(crate) number: u8,
-    pub(crate) is_open: bool,
-}
-
-impl Label {
-    // What an array of labels is filled with before one waits.
-    pub(crate) const BLANK: Label = Label {
-        number: 0,
-        is_open: false,
-    };
-}
 
 // The last read before the others.
 pub(crate) type Labels<'a> = Stack<'a, Label, MOST_WRITTEN_NODES>;
@@ -92,13 +78,10 @@ pub(crate) fn end_siblings(may_open: bool, waiting: &mut Labels, image: &mut Ima
     image.put(LEAF, PAD_LABEL);
     // Ends where no label waits at the latest: each turn takes one.
     while let Some(label) = waiting.pop() {
-        if label.is_open {
-            waiting.push(Label {
-                is_open: false,
-                ..label
-            });
+        if label.is_open() {
+            waiting.push(label.closed());
             return;
         }
-        image.put(BRANCH, label.number);
+        image.put(BRANCH, label.number().value());
     }
 }

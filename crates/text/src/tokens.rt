@@ -7,7 +7,9 @@ ghost use Rattle.text.specs.Told.{told};
 
 use crate::LONGEST_IMAGE;
 use crate::bytes::copy_to_start;
-use crate::records::{Image, Label, Labels, end_siblings};
+use crate::label::Label;
+use crate::number::Number;
+use crate::records::{Image, Labels, end_siblings};
 use crate::stack::Stack;
 use paper::Refusal;
 use paper::limits::MOST_WRITTEN_NODES;
@@ -76,17 +78,14 @@ impl<'a> Kept<'a> {
     }
 
     // A number is a label, and waits. The one just before it has no brackets then.
-    pub(crate) fn put_number(&mut self, label: u8) -> Result<(), Fault>
+    pub(crate) fn put_number(&mut self, label: Number) -> Result<(), Fault>
         ensures { step_to result self.new ≡ step self.old (number label) }
     {
         if self.is_full() {
             return Err(Fault);
         }
         self.image.put_pad_if(self.may_open);
-        self.waiting.push(Label {
-            number: label,
-            is_open: false,
-        });
+        self.waiting.push(Label::new(label));
         self.nodes += 1;
         self.may_open = true;
         Ok(())
@@ -100,10 +99,7 @@ impl<'a> Kept<'a> {
             return Err(Fault);
         }
         if let Some(label) = self.waiting.pop() {
-            self.waiting.push(Label {
-                is_open: true,
-                ..label
-            });
+            self.waiting.push(label.opened());
         }
         self.depth += 1;
         self.may_open = false;

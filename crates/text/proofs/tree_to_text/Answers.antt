@@ -1,5 +1,5 @@
 -- The bytes are no image, or their text is made, and copied if there is room.
-use Rattle.std.proofs.Common.{◌∙◌, refl, sym}
+use Rattle.std.proofs.Common.{refl, sym}
 use Rattle.paper.specs.CanonicalText.{text_of}
 use Rattle.paper.specs.Conversions.{Images}
 use Rattle.text.proofs.Copying.{converted, unconverted}
@@ -12,4 +12,4 @@ returns-then-not-is_image c =
 
 pub returns : goal.returns
 returns c = let made = c.write_text-text.ensures in
-    converted (Images c.args.tree.now) text_of made.tree made.images _ c.args.out.now (c.as_slice-whole.ensures ∙ made.stands) _ _ c.copy_to_start.ensures
+    converted (Images c.args.tree.now) text_of made.tree made.images _ c.args.out.now made.stands _ _ c.put_text.ensures
