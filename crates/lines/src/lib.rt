@@ -1,7 +1,6 @@
-// Text in a buffer: a byte, a number, a line of a word and a number, the line of a refusal. First in a `Text`, whose buffer has a fixed
-// size, behind what stands there: with it both programs write. Then in any buffer, behind its first `at` bytes, the line of a refusal from
-// its start. A word, a number or a byte that has no room is left out whole, so none asks for anything; who has the room knows that all
-// stands there (proofs/PuttingAt.antt; of a `Text` proofs/Putting.antt). Last, how both programs read and write.
+// Text in a buffer: a byte, a number, a line of a word and a number, the line of a refusal. First in a `Text`, of a fixed size, with which
+// `list` writes; then in any buffer, behind its first `at` bytes, the line of a refusal from its start; last, how both programs read and
+// write. What has no room is left out whole, so none asks for anything; who has the room knows that it stands (proofs/Putting, PuttingAt).
 #![tactic(auto)]
 
 ghost use Rattle.std.specs.Prelude.{[], ◌∷◌, ◌≡◌, ◌+◌, ◌≤◌, length, take, OnOk};

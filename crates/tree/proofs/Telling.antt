@@ -1,5 +1,5 @@
--- What is told of an input, on plain values: what `text_to_tree` leaves in the output and `put_refusal` in a text is it, and it is one.
-use mathlib.Core.List.{List, []}
+-- What is told of an input, on plain values: what `text_to_tree` and `put_refusal` leave in the output is it, and it is one.
+use mathlib.Core.List.{List}
 use mathlib.Core.Path.{◌∙◌, ◌≡◌, ap, refl, subst, sym}
 use Prim.Native.Nat.{◌≤◌, ℕ}
 use native.Mathlib.Omega.{arith}
@@ -15,12 +15,22 @@ use Rattle.laws.proofs.Replies.{answer_inj, refused_inj, refused_not_answer}
 use Rattle.writings.proofs.ImageTrees.{image_short}
 use Rattle.writings.proofs.Texts.{one_tree, writes_allowed}
 use Rattle.text.specs.Face.{MakesTree}
-use Rattle.lines.specs.Bounds.{longest_refusal}
-use Rattle.lines.specs.Put.{put_refusal}
+use Rattle.lines.specs.PutAt.{put_refusal_at}
 use Rattle.lines.specs.Text.{refusal_text}
-use Rattle.lines.proofs.Putting.{puts_refusal, refusal_short}
+use Rattle.lines.proofs.Putting.{refusal_short}
+use Rattle.lines.proofs.PuttingAt.{puts_refusal_at}
 use Rattle.tree.specs.Telling.{Stands, Tells, longest_image, longest_input}
 use Rattle.tree.specs.Telling as T
+
+-- the line of a refusal stands in an output that is long enough
+pub line_stands : (input : List ℕ) (n : No) → Tells input (refusal_text n) → (out : List ℕ) → length out ≡ longest_image
+    → {end : ℕ} {out' : List ℕ} → length out' ≡ longest_image → put_refusal_at n (0, out) ≡ (end, out') → Stands input end out'
+line_stands input n tells out long {end} {out'} long' e =
+    let short = refusal_short n in
+    let put = puts_refusal_at n 0 out (omega (arith, short, long)) e in record {
+      within = omega (arith, put.ends, short, long');
+      tells = subst (Tells input) (sym put.stands) tells;
+    }
 
 module _ (input out : List ℕ) (short : length input ≤ longest_input) (long : length out ≡ longest_image) where
   -- a refusal is 15
@@ -51,11 +61,6 @@ module _ (input out : List ℕ) (short : length input ≤ longest_input) (long :
   pub refusal_tells : (r : Result ℕ Refusal) (out' : List ℕ) → MakesTree input out r out' → IfErr r (λ why. Tells input (refusal_text (no_of why)))
   refusal_tells (Ok n) out' M = tt
   refusal_tells (Err why) out' M = reply_refused M.reply M.right (no_of why) M.answer
-
--- the line of a refusal has room in a text of its own
-pub line_tells : (input : List ℕ) (n : No) (line : List ℕ) → Tells input (refusal_text n) → line ≡ put_refusal longest_refusal n [] → Tells input line
-line_tells input n line told e =
-    subst (Tells input) (sym (e ∙ puts_refusal longest_refusal n [] (omega (arith, refusal_short n)))) told
 
 -- ---- one text
 -- what is told of an input is told of it alone: two that are allowed are one

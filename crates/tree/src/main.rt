@@ -1,5 +1,5 @@
-// The tree program: a bracketed text on standard input, its tree records on standard output, or one line with a number. First the records
-// of an input, then what is told of it, handed on, and last what is read. `text` makes the records, and `lines` the line of a refusal.
+// The tree program: a bracketed text on standard input, its tree records on standard output, or one line with a number. First what is told
+// of an input, then handing it on, and last what is read. `text` makes the records, and `lines` the line of a refusal.
 #![tactic(auto)]
 
 ghost use Rattle.std.specs.Prelude.{IfErr, IfOk};
@@ -9,7 +9,7 @@ ghost use Rattle.tree.specs.Telling.{Stands, Tells};
 ghost use Rattle.lines.specs.Text.{refusal_text};
 
 use crate::handed::{Handed, STDOUT_FILENO, Unwritten};
-use lines::{LONGEST_REFUSAL, Text, read_full};
+use lines::{put_refusal, read_full};
 use paper::Refusal;
 use text::LONGEST_IMAGE;
 
@@ -31,22 +31,24 @@ fn records_of(input: &[u8], out: &mut [u8; LONGEST_IMAGE]) -> Result<usize, Refu
     text::text_to_tree(input, out)
 }
 
+// What is told of an input stands in the first bytes of the output, and how many they are is answered. A line stands there too, so that it
+// needs no buffer of its own, and all is handed on at one place.
+fn answer(input: &[u8], out: &mut [u8; LONGEST_IMAGE]) -> usize
+    ensures { Stands input.now result out.new }
+{
+    match records_of(input, out) {
+        Ok(bytes) => bytes,
+        Err(why) => put_refusal(out, why.into()),
+    }
+}
+
 // All that is told of an input, handed on in one write.
 fn tell<'a>(rt: &HostRuntime, input: &'a [u8]) -> Result<Handed<'a>, Unwritten>
     ensures { IfOk result (HandsOn input.now) }
 {
-    let handed = Handed::nothing(input);
     let mut out = [0; LONGEST_IMAGE];
-    match records_of(input, &mut out) {
-        Ok(bytes) => handed.hand_on(rt, STDOUT_FILENO, &mut out[..bytes]),
-        Err(why) => {
-            let mut line: Text<LONGEST_REFUSAL> = Text::new();
-            line.put_refusal(why.into());
-            let told = line.as_slice();
-            out[..told.len()].copy_from_slice(told);
-            handed.hand_on(rt, STDOUT_FILENO, &mut out[..told.len()])
-        }
-    }
+    let bytes = answer(input, &mut out);
+    Handed::nothing(input).hand_on(rt, STDOUT_FILENO, &mut out[..bytes])
 }
 
 // One byte more is read than the program takes, to see an input that is too long: `read_full` stops where the buffer is full or the
